@@ -8,6 +8,7 @@ use lms_sign::{PrivateKey, PublicKey};
 use pending_list::Signed;
 use std::alloc::Global;
 use tests_aids::numbers::{i_number, principal};
+pub use tests_aids::stops::{Kept, device_of, nothing_yet};
 use tests_aids::texts::key_of;
 use tests_aids::{Aided, check, found, given};
 use update_cert::{Change, MOST_CHANGES};
@@ -16,14 +17,6 @@ use wire::Status;
 
 /// A client whose devices are in memory.
 pub type MemoryClient = Client<MemoryDevice<Global>, MemoryDevice<Global>, Global>;
-
-/// What is kept of it while it is closed: its key and its devices.
-#[derive(Drop)]
-pub struct Kept {
-    pub key: PrivateKey<Global>,
-    pub ledger: MemoryDevice<Global>,
-    pub journal: MemoryDevice<Global>,
-}
 
 /// What it is opened over, and hands back.
 type ClientParts = Parts<MemoryDevice<Global>, MemoryDevice<Global>, Global>;
@@ -37,21 +30,6 @@ pub(crate) fn kept_of(rt: &impl Aided, parts: ClientParts) -> Kept {
             journal,
         },
         None => rt.fail("no key"),
-    }
-}
-
-/// A device in memory with this text.
-pub fn device_of(rt: &impl Aided, text: &[u8]) -> MemoryDevice<Global> {
-    let text = given(rt, Vec::from_slice(rt.alloc(), text), "memory");
-    given(rt, MemoryDevice::new(rt.alloc(), text), "memory")
-}
-
-/// This key, and devices on which nothing stands.
-pub fn nothing_yet(rt: &impl Aided, key: PrivateKey<Global>) -> Kept {
-    Kept {
-        key,
-        ledger: device_of(rt, b""),
-        journal: device_of(rt, b""),
     }
 }
 
