@@ -58,11 +58,10 @@ fn each_growth_refused_blocks(rt: HostRuntime) {
     sweep_blocks(&rt).is(host, 46, 1, b"p");
 }
 
-/// Whose signature a structure bears is read before the lock is taken, and under it where memory runs out for that: it
-/// is committed all the same.
+/// None goes untold.
 #[test]
 fn each_growth_refused_requests(rt: HostRuntime) {
     let host = &(&rt, Here);
     serve_blocks(&rt).is(host, 22, 0, b"");
-    serve_calls(&rt).is(host, 50, 2, b"a");
+    serve_calls(&rt).is(host, 50, 0, b"");
 }
