@@ -1,7 +1,7 @@
 //! Tests in which each growth of memory is refused in turn: what is answered then, what stands as before, and that the
 //! same call goes on once there is memory. Operations of clients and their server, requests to a whole server, and
 //! stored blocks. What takes no memory is asked for while all of it is refused. A frame is cut, and a log's writer
-//! fails, at each byte.
+//! fails, at each byte. A client stops at each call of its devices.
 #![tactic(auto)]
 
 #[cfg(test)]
@@ -20,6 +20,8 @@ mod plans;
 mod rows;
 #[cfg(test)]
 mod served;
+#[cfg(test)]
+mod stops;
 #[cfg(test)]
 mod stored;
 #[cfg(test)]
