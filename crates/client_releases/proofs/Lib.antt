@@ -1,5 +1,6 @@
 pub mod Again
 pub mod Keeping
+pub mod Numbers
 pub mod Opening
 pub mod OwnKeys
 pub mod Reading

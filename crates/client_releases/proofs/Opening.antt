@@ -149,16 +149,16 @@ risen_since a b c d less is risen below =
     let up : b < c = risen small in omega (arith, up, less, is)
 
 -- what opening both devices fails by
-pub opening_only : (x : ClientError) → (x ≡ client.Device) ⊎ ((x ≡ client.Foreign) ⊎ (x ≡ client.Damaged)) → (x ≢ client.NoLeaf) × (x ≢ client.NoNumber)
-opening_only x (inl is) = (λ no. cc (is, no), λ no. cc (is, no))
-opening_only x (inr (inl is)) = (λ no. cc (is, no), λ no. cc (is, no))
-opening_only x (inr (inr is)) = (λ no. cc (is, no), λ no. cc (is, no))
+pub opening_only : (x : ClientError) → (x ≡ client.Device) ⊎ ((x ≡ client.Foreign) ⊎ (x ≡ client.Damaged)) → (x ≢ client.NoLeaf) × (x ≢ client.NoNumber) × (x ≢ client.NoKey)
+opening_only x (inl is) = (λ no. cc (is, no), λ no. cc (is, no), λ no. cc (is, no))
+opening_only x (inr (inl is)) = (λ no. cc (is, no), λ no. cc (is, no), λ no. cc (is, no))
+opening_only x (inr (inr is)) = (λ no. cc (is, no), λ no. cc (is, no), λ no. cc (is, no))
 
 -- and reading the journal
-pub reading_only : (x : ClientError) → (x ≡ client.Memory) ⊎ ((x ≡ client.Device) ⊎ (x ≡ client.Damaged)) → (x ≢ client.NoLeaf) × (x ≢ client.NoNumber)
-reading_only x (inl is) = (λ no. cc (is, no), λ no. cc (is, no))
-reading_only x (inr (inl is)) = (λ no. cc (is, no), λ no. cc (is, no))
-reading_only x (inr (inr is)) = (λ no. cc (is, no), λ no. cc (is, no))
+pub reading_only : (x : ClientError) → (x ≡ client.Memory) ⊎ ((x ≡ client.Device) ⊎ (x ≡ client.Damaged)) → (x ≢ client.NoLeaf) × (x ≢ client.NoNumber) × (x ≢ client.NoKey)
+reading_only x (inl is) = (λ no. cc (is, no), λ no. cc (is, no), λ no. cc (is, no))
+reading_only x (inr (inl is)) = (λ no. cc (is, no), λ no. cc (is, no), λ no. cc (is, no))
+reading_only x (inr (inr is)) = (λ no. cc (is, no), λ no. cc (is, no), λ no. cc (is, no))
 
 pub reading_own : (x : ClientError) → (x ≡ client.Memory) ⊎ ((x ≡ client.Device) ⊎ (x ≡ client.Damaged)) → x ≡ client.Foreign → ⊥
 reading_own x (inl is) same = cc (is, same)

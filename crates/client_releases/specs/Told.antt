@@ -1,9 +1,9 @@
 -- What the records of a journal tell of a client.
-use Rattle.std.specs.Prelude.{◌≡◌, ◌⊎◌, ◌<◌, ℕ, length, slice_index_or, List, [], ◌++◌, Option, Some, None, true, ◌==◌, if◌then◌else◌}
+use Rattle.std.specs.Prelude.{◌≡◌, ◌⊎◌, ◌<◌, ℕ, Bool, bytes_eq, length, slice_index_or, List, [], ◌++◌, Option, Some, None, true, ◌==◌, if◌then◌else◌}
 use Rattle.std.specs.Option.{option_and_then, option_map}
 use Rattle.std.specs.Result.{result_ok}
 use Rattle.layout.specs.Format.{Format, whole}
-use Rattle.layout.specs.Types.{Bytes, User, Version}
+use Rattle.layout.specs.Types.{Bytes, Key, User, Version}
 use Rattle.lms_sign.specs.Keys.{public_key_of}
 use Rattle.lms_sign.specs.Secret.{Secret}
 use Rattle.lms_sign.specs.Signature.{signature_of}
@@ -70,6 +70,10 @@ secret_at n r = slice_index_or r.secrets n no_secret
 
 abbrev pub HasKey : ℕ → Released → Type 0
 HasKey n r = n < length r.secrets
+
+-- what is made of this has this public key
+abbrev pub has_public : Key → Secret → Bool
+has_public key secret = bytes_eq (public_key_of secret) key
 
 -- no leaf of this key is left that can be used
 abbrev pub IsKeyUsedUp : ℕ → Released → Type 0

@@ -31,6 +31,9 @@ pub enum ClientError {
     /// The journal is damaged, or tells a text that isn't this user's.
     #[error("the journal is damaged")]
     Damaged,
+    /// None of the own keys is the one that the table of principals has for the signature.
+    #[error("the key isn't there")]
+    NoKey,
 }
 
 impl From<AllocError> for ClientError {

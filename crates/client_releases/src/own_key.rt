@@ -1,11 +1,13 @@
 //! A client's keys, each with its ledger: how they are opened together, and handed back.
 
+ghost use Rattle.std.specs.List.{position};
 ghost use Rattle.std.specs.Prelude.{◌≡◌, ◌+◌, ◌≤◌, ◌++◌, map, IfErr, IfOk, vec_len, vec_capacity};
 ghost use Rattle.client_releases.specs.OwnKeys.{AreOpened, AreSettled, OneIsRefused, closed_key, key_files};
 ghost use Rattle.client_releases.specs.OwnKeys.{ledgers_of, secrets_of};
+ghost use Rattle.client_releases.specs.Told.{has_public};
 
 use leaf_ledger::{Device, Ledger, LedgerError};
-use lms_sign::PrivateKey;
+use lms_sign::{PrivateKey, PublicKey};
 use std::alloc::Allocator;
 use std::marker::Model;
 
@@ -22,6 +24,16 @@ impl<L: Device, A: Allocator> Model for OwnKey<L, A> {
     ghost Value = { OwnKey };
 
     ghost view = { λ own. record { secret = own.key; ledger = own.ledger } };
+}
+
+/// The number of the first of these keys with this public key, if there is one.
+pub(crate) fn number_of<L: Device, A: Allocator>(
+    own: &[OwnKey<L, A>],
+    public: &PublicKey,
+) -> Option<usize>
+    ensures { result ≡ position (λ k. has_public public.now k.secret) own.now }
+{
+    own.iter().position(|own| own.key.public() == *public)
 }
 
 /// Keys with the devices of their ledgers.

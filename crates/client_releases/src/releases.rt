@@ -2,6 +2,7 @@
 
 ghost use Rattle.std.specs.Prelude.{◌≡◌, ◌≢◌, ◌⊎◌, ◌↔◌, ◌<◌, ◌≤◌, length, map, true, false, Some, IfErr, IfOk};
 ghost use Rattle.std.specs.Prelude.{IsErrOf, OnErr, OnOk};
+ghost use Rattle.std.specs.List.{position};
 ghost use Rattle.std.specs.Option.{option_copied};
 ghost use Rattle.lms_sign.specs.Keys.{public_key_of};
 ghost use Rattle.leaf_ledger.specs.Device.{HasRisen};
@@ -13,10 +14,10 @@ ghost use Rattle.client_releases.specs.OwnKeys.{AreLater, AreOpened, OneIsForeig
 ghost use Rattle.client_releases.specs.Releasing.{AnyMoment, IsKept, IsOpening, IsTried, OneHasRisen};
 ghost use Rattle.client_releases.specs.Releasing.{OthersStay, cert_record, ledger_at, structure_record, under};
 ghost use Rattle.client_releases.specs.Told.{HasKey, IsKeyUsedUp, IsToldBy, TellsOfOther, secret_at, sent};
-ghost use Rattle.client_releases.specs.Told.{signed_by, told_by};
+ghost use Rattle.client_releases.specs.Told.{has_public, signed_by, told_by};
 
 use crate::error::ClientError;
-use crate::own_key::{Keys, OwnKey, close_before, open_ledgers};
+use crate::own_key::{Keys, OwnKey, close_before, number_of, open_ledgers};
 use crate::parts::Parts;
 use crate::phase::Phase;
 use crate::releasing::keep_under;
@@ -122,7 +123,8 @@ impl<L: Device, J: Device, A: Allocator + Copy> Releases<L, J, A> {
         ensures device { IfErr result (λ e. e.0 ≡ ClientError.Device
             → OneOfHasRisen (map (λ k. L.fault_count k.1) keys.items) (map (λ k. L.fault_count k.1) e.1.keys.items)
             ⊎ HasRisen (J.fault_count journal) (J.fault_count e.1.journal)) }
-        ensures only { IfErr result (λ e. (e.0 ≢ ClientError.NoLeaf) × (e.0 ≢ ClientError.NoNumber)) }
+        ensures only { IfErr result (λ e. (e.0 ≢ ClientError.NoLeaf) × (e.0 ≢ ClientError.NoNumber)
+            × (e.0 ≢ ClientError.NoKey)) }
         ensures later { IfOk result (λ r. J.fault_count journal ≤ r.devices.journal.faults) }
         ensures later_err { IfErr result
             (λ e. AreLater (map (λ k. L.fault_count k.1) keys.items) (map (λ k. L.fault_count k.1) e.1.keys.items)
@@ -194,6 +196,13 @@ impl<L: Device, J: Device, A: Allocator> Releases<L, J, A> {
         ensures { result ≡ public_key_of (secret_at key self.now) }
     {
         self.keys[key].key.public()
+    }
+
+    /// The number of the first key with this public key, if there is one.
+    pub fn key_number(&self, public: &PublicKey) -> Option<usize>
+        ensures { result ≡ position (has_public public.now) self.now.secrets }
+    {
+        number_of(&self.keys, public)
     }
 
     /// The number of the operation that was declared last, 0 where none was.

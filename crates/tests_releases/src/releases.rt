@@ -283,8 +283,9 @@ fn errors_print(rt: HostRuntime) {
         ClientError::NoNumber,
         ClientError::Foreign,
         ClientError::Damaged,
+        ClientError::NoKey,
     ];
     let lines = "out of memory\nno leaf is left\na device failed\nno number is left\n\
-        the ledger is another key's\nthe journal is damaged\n";
+        the ledger is another key's\nthe journal is damaged\nthe key isn't there\n";
     print_lines(&rt, &errors, lines);
 }
