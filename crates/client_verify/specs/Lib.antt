@@ -1,4 +1,5 @@
 pub mod State
+pub mod OwnTexts
 pub mod Progress
 pub mod Holding
 pub mod Judged

@@ -1,6 +1,7 @@
 -- A client as a machine: its state, and what each call makes of it.
-use Rattle.std.specs.Prelude.{◌≡◌, ℕ, ◌+◌, List, [], fold, Option, Some, None, IfSome, IsSomeAnd}
-use Rattle.std.specs.Option.{option_map_or}
+use Rattle.std.specs.Prelude.{◌≡◌, ℕ, ◌+◌, ◌-◌, ◌==◌, if◌then◌else◌, List, [], fold, length, Option, Some, None, IfSome, IsSomeAnd}
+use Rattle.std.specs.List.{position}
+use Rattle.std.specs.Option.{option_and_then, option_map_or}
 use Rattle.std.specs.Ordering.{nat_cmp}
 use Rattle.layout.specs.Ascending.{with_row}
 use Rattle.layout.specs.Types.{Bytes, Digest, Handle, Key, User, Version}
@@ -8,12 +9,13 @@ use Rattle.lms_sign.specs.Secret.{Secret}
 use Rattle.leaf_ledger.specs.Ledger.{LeafNumber}
 use Rattle.version_order.specs.declared.structure.GroupRecord.{GroupRecord}
 use Rattle.version_order.specs.Plan.{Plan}
+use Rattle.version_order.specs.Vector.{version_of}
 use Rattle.version_order.specs.Structure.{Structure, group_of, structure}
 use Rattle.update_cert.specs.Change.{Change}
 use Rattle.update_cert.specs.Cert.{Cert, cert}
 use Rattle.client_tree.specs.Genesis.{first_blocks}
 use Rattle.checked_blocks.specs.CheckedBlocks.{CheckedBlocks, at_first, holding as with_held}
-use Rattle.principals.specs.Table.{Table}
+use Rattle.principals.specs.Table.{Table, key_at}
 use Rattle.pending_list.specs.declared.signed.Signed.{Signed}
 use Rattle.pending_list.specs.Signed.{signed}
 use Rattle.pending_list.specs.Reply.{Reply, digest_of_last}
@@ -29,7 +31,7 @@ use Rattle.client_verify.specs.declared.view.Stage.TheVariants as stage
 use Rattle.reply_check.specs.FirstBroken.{Known}
 use Rattle.reply_check.specs.Good.{Good, with_own}
 use Rattle.client_releases.specs.Releasing.{OwnDevices}
-use Rattle.client_releases.specs.Told.{Released, secret_at, sent, signed_by}
+use Rattle.client_releases.specs.Told.{Released, has_public, secret_at, sent, signed_by}
 
 -- A reply that breaks none of the rules on itself, of which a block is asked for: one of the table of principals; or,
 -- once that is read and the lists break no rule by it, one that tells what the own operation makes.
@@ -140,9 +142,13 @@ failed s = record s { phase = phase.Failed; checked = None; accepted = None }
 abbrev pub next_cert : State → List (Change Digest) → Cert
 next_cert s changes = record { user = s.user; number = s.number + 1; last = digest_of_last s.last; changes = changes }
 
--- the certificate of these changes that comes next, as it is sent, signed by this leaf of the first key
+-- the number of the newest key, by which certificates are signed
+unfoldable pub newest_key : State → ℕ
+newest_key s = length s.secrets - 1
+
+-- the certificate of these changes that comes next, as it is sent, signed by this leaf of the newest key
 abbrev pub declared_text : State → LeafNumber → List (Change Digest) → Bytes
-declared_text s leaf changes = sent (released s) 0 leaf (cert.spell (next_cert s changes))
+declared_text s leaf changes = sent (released s) (newest_key s) leaf (cert.spell (next_cert s changes))
 
 -- the state after these changes are declared by this leaf
 abbrev pub declared : State → LeafNumber → List (Change Digest) → State
@@ -182,10 +188,23 @@ structure_over handle records last plan =
 abbrev pub next_structure : State → Ready → Structure
 next_structure s r = structure_over r.handle r.records s.last r.lists.own.plan
 
-abbrev pub signed_structure : State → LeafNumber → Ready → Signed Structure
-signed_structure s leaf r = signed_by (secret_at 0 (released s)) leaf (next_structure s r)
+-- the key by which this user is to sign the structure over an accepted reply: user 0's is pinned, and of another user
+-- it is the one that the table has at the version of user 0 in the own plan
+abbrev pub named_key : Key → User → Ready → Option Key
+named_key pinned user r = if user == 0 then Some pinned else key_at user (version_of 0 r.lists.own.plan.vector) r.table
 
--- the structure over an accepted reply, as it is sent, signed by this leaf
+-- the number of the first of the own keys that is that one, if one is
+unfoldable pub signer_of : State → Ready → Option ℕ
+signer_of s r = option_and_then (λ key. position (has_public key) s.secrets) (named_key s.pinned s.user r)
+
+-- the number of the key that signs the structure over an accepted reply; where none does, of one that isn't there
+unfoldable pub signing_key : State → Ready → ℕ
+signing_key s r = option_map_or (λ n. n) (signer_of s r) (length s.secrets)
+
+abbrev pub signed_structure : State → LeafNumber → Ready → Signed Structure
+signed_structure s leaf r = signed_by (secret_at (signing_key s r) (released s)) leaf (next_structure s r)
+
+-- the structure over an accepted reply, as it is sent, signed by this leaf of that key
 abbrev pub signed_text : State → LeafNumber → Ready → Bytes
 signed_text s leaf r = (signed structure).spell (signed_structure s leaf r)
 

@@ -1,11 +1,11 @@
 //! A client: what it is made of, how it is opened and closed, and what it tells.
 
-ghost use Rattle.std.specs.Prelude.{◌↔◌, ◌≡◌, ◌≢◌, ◌≤◌, ◌⊎◌, IfErr, IfOk, IsSome, IsSomeAnd, IsTrue, None, Some, []};
-ghost use Rattle.std.specs.Prelude.{false, true};
-ghost use Rattle.std.specs.Prelude.{◌<◌, ◌^◌, length, map};
+ghost use Rattle.std.specs.Prelude.{◌↔◌, ◌≡◌, ◌≢◌, ◌≤◌, ◌⊎◌, IfErr, IfOk, IfSome, IsSome, IsSomeAnd, IsTrue, None, Some};
+ghost use Rattle.std.specs.Prelude.{◌<◌, ◌^◌, [], false, length, map};
 ghost use Rattle.std.specs.Option.{option_map};
 ghost use Rattle.client_tree.specs.Genesis.{first_blocks};
 ghost use Rattle.checked_blocks.specs.CheckedBlocks.{at_first};
+ghost use Rattle.client_releases.specs.Told.{HasKey};
 
 use crate::view::{AcceptedView, Progress};
 use checked_blocks::CheckedBlocks;
@@ -22,27 +22,25 @@ use version_order::Structure;
 
 /// A client of one user, over ledgers of its keys' leaves and a journal of what it released.
 ///
-/// A key has one ledger file, and a user one journal. One that is dropped is as after a crash.
+/// A user has one journal, and each of its keys one ledger. One that is dropped is as after a crash.
 #[derive(Drop)]
 pub struct Client<L: Device, J: Device, A: Allocator> {
     pub(crate) alloc: A,
     pub(crate) pinned: PublicKey,
     pub(crate) releases: Releases<L, J, A>,
-    // Whether it is known that the own first key signed the last structure and the last text. It isn't of those that a
-    // journal tells.
-    pub(crate) is_own: bool,
+    // The number of the key of which it is known that it signed the last structure and the last text. It isn't known of
+    // those that a journal tells.
+    pub(crate) signer: Option<usize>,
     pub(crate) blocks: CheckedBlocks<A>,
     pub(crate) progress: Progress<A>,
     pub(crate) view: Option<AcceptedView<A>>,
 }
 
 impl<L: Device, J: Device, A: Allocator> Model for Client<L, J, A> {
-    ghost use Rattle.std.specs.Prelude.{◌≡◌, true};
-    ghost use Rattle.lms_sign.specs.Keys.{public_key_of};
+    ghost use Rattle.std.specs.Prelude.{IfSome};
     ghost use Rattle.client_verify.specs.State.{AreReplies, State};
     ghost use Rattle.client_verify.specs.Progress.{accepted_of, checked_of};
-    ghost use Rattle.reply_check.specs.Verified.{AreOwn};
-    ghost use Rattle.client_releases.specs.Told.{secret_at};
+    ghost use Rattle.client_verify.specs.OwnTexts.{SignedBoth};
 
     ghost Value = { State };
 
@@ -62,14 +60,20 @@ impl<L: Device, J: Device, A: Allocator> Model for Client<L, J, A> {
     } };
 
     ghost invariant = { λ c. AreReplies c.releases (checked_of c.progress) (accepted_of c.progress)
-        × (c.is_own ≡ true → AreOwn (public_key_of (secret_at 0 c.releases)) c.releases.last c.releases.text) };
+        × IfSome c.signer (λ n. SignedBoth n c.releases) };
 }
 
-/// Whether nothing was released yet.
-fn is_first<L: Device, J: Device, A: Allocator>(releases: &Releases<L, J, A>) -> bool
-    ensures { result ≡ true → (releases.now.last ≡ None) × (releases.now.text ≡ []) }
+/// The number of the newest key where nothing was released yet: then there is no text of another.
+fn first_signer<L: Device, J: Device, A: Allocator>(releases: &Releases<L, J, A>) -> Option<usize>
+    ensures { IfSome result
+        (λ n. HasKey n releases.now × (releases.now.last ≡ None) × (releases.now.text ≡ [])) }
 {
-    releases.last().is_none() && releases.text().is_empty()
+    releases.type_invariant();
+    if releases.last().is_none() && releases.text().is_empty() {
+        Some(releases.key_count() - 1)
+    } else {
+        None
+    }
 }
 
 /// What is known of blocks before anything was checked: those of the beginning.
@@ -100,8 +104,8 @@ impl<L: Device, J: Device, A: Allocator + Copy> Client<L, J, A> {
     ghost use Rattle.client_releases.specs.Told.{IsReleased, IsToldBy, TellsOfOther};
 
     /// Opens the client of this user over its devices, before its first operation or after a crash: a declared
-    /// operation goes on with its certificate, and a signed one with its structure. User 0's public key is known to
-    /// every client. A refusal hands back what was handed in.
+    /// operation goes on with its certificate, and a signed one with its structure. The keys are the user's, the oldest
+    /// first. User 0's public key is known to every client. A refusal hands back what was handed in.
     pub fn open(
         alloc: A,
         user: User,
@@ -109,8 +113,7 @@ impl<L: Device, J: Device, A: Allocator + Copy> Client<L, J, A> {
         pinned: PublicKey,
         journal: J,
     ) -> Result<Client<L, J, A>, (ClientError, Parts<L, J, A>)>
-        // A user has one key.
-        requires { length keys.items ≡ 1 }
+        requires { 0 < length keys.items }
         ensures state { IfOk result (λ client. client ≡ opened pinned (released client)) }
         ensures whose { IfOk result (λ client. (client.user ≡ user) × (client.secrets ≡ map (λ k. k.0) keys.items)) }
         // It is as the journal told, and as it tells still.
@@ -130,7 +133,8 @@ impl<L: Device, J: Device, A: Allocator + Copy> Client<L, J, A> {
         ensures device { IfErr result (λ e. e.0 ≡ ClientError.Device
             → OneOfHasRisen (map (λ k. L.fault_count k.1) keys.items) (map (λ k. L.fault_count k.1) e.1.keys.items)
             ⊎ HasRisen (J.fault_count journal) (J.fault_count e.1.journal)) }
-        ensures only { IfErr result (λ e. (e.0 ≢ ClientError.NoLeaf) × (e.0 ≢ ClientError.NoNumber)) }
+        ensures only { IfErr result (λ e. (e.0 ≢ ClientError.NoLeaf) × (e.0 ≢ ClientError.NoNumber)
+            × (e.0 ≢ ClientError.NoKey)) }
         ensures later { IfOk result (λ client. J.fault_count journal ≤ client.devices.journal.faults) }
         ensures later_err { IfErr result
             (λ e. AreLater (map (λ k. L.fault_count k.1) keys.items) (map (λ k. L.fault_count k.1) e.1.keys.items)
@@ -152,12 +156,12 @@ impl<L: Device, J: Device, A: Allocator + Copy> Client<L, J, A> {
         };
         match Releases::open(alloc, user, keys, journal) {
             Ok(releases) => {
-                let is_own = is_first(&releases);
+                let signer = first_signer(&releases);
                 Ok(Client {
                     alloc,
                     pinned,
                     releases,
-                    is_own,
+                    signer,
                     blocks,
                     progress: Progress::None,
                     view: None,
@@ -179,7 +183,7 @@ impl<L: Device, J: Device, A: Allocator + Copy> Client<L, J, A> {
             alloc: _,
             pinned: _,
             releases,
-            is_own: _,
+            signer: _,
             blocks,
             progress,
             view,

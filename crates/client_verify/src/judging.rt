@@ -47,15 +47,13 @@ impl<L: Device, J: Device, A: Allocator + Copy> Client<L, J, A> {
         }
     }
 
-    /// The own key, where it is known that it signed the last structure and the last text.
+    /// The own key of which it is known that it signed the last structure and the last text.
     fn own(&self) -> Option<PublicKey>
         ensures { IfSome result (λ key. AreOwn key self.now.last self.now.text) }
     {
-        self.releases.type_invariant();
-        if self.is_own {
-            Some(self.releases.key(0))
-        } else {
-            None
+        match self.signer {
+            Some(signer) => Some(self.releases.key(signer)),
+            None => None,
         }
     }
 

@@ -1,4 +1,4 @@
-use Rattle.std.proofs.Common.{◌≡◌, ap, map, subst, sym, ◌∙◌}
+use Rattle.std.proofs.Common.{◌≡◌, IfSome, None, Option, Some, ap, map, subst, sym, ◌∙◌}
 use Rattle.std.specs.Vec.{vec_items}
 use Rattle.std.proofs.lemmas.Result.{on_err_weaker, on_ok_weaker}
 use Rattle.layout.specs.Types.{Bytes}
@@ -12,27 +12,29 @@ use Rattle.client_releases.specs.Told.{HasKey, IsKeyUsedUp, Released, secret_at,
 use Rattle.checked_blocks.specs.CheckedBlocks.{CheckedBlocks}
 use Rattle.client_verify.specs.Holding.{LaysOut}
 use Rattle.client_verify.specs.Progress.{accepted_of, checked_of}
-use Rattle.client_verify.specs.State.{State, declared_text, next_cert, released}
-use Rattle.client_verify.proofs.Releasing.{at_device, begun, begun_failed, but_device, err_at, never_else, none_used, ok_either, only_device, own_after, refused_moments, refused_tried, same_error, seen, stands_in}
+use Rattle.client_verify.specs.State.{State, declared_text, newest_key, next_cert, released}
+use Rattle.client_verify.proofs.Releasing.{at_device, begun, begun_failed, but_device, err_at, held, kept_signer, never_else, none_used, ok_either, only_device, own_after, refused_moments, refused_tried, same_error, seen, stands_in}
 use Rattle.client_verify.proofs.client.Client.begin.Goals as goal
 
 pub returns-in-Err-clause-any_moment : goal.returns-in-Err-clause-any_moment
 returns-in-Err-clause-any_moment g c leaf least =
     let s = c.args.self.now in
-    let stands = stands_in c.self.inside.releases phase.Idle c.type_invariant.ensures (ap (λ (q : State). q.phase) c.self.view_is ∙ c.requires.idle) (λ two. cc two) in
-    refused_moments c.self.inside.releases s c.prepare.new.self (ap released c.self.view_is) c.type_invariant.ensures.some stands c.in-Err.ensures.err (λ k. cert_record (declared_text s k c.args.changes.now)) leaf
+    let r = c.self.inside.releases in
+    let stands = stands_in r phase.Idle c.type_invariant.ensures (ap (λ (q : State). q.phase) c.self.view_is ∙ c.requires.idle) (λ two. cc two) in
+    let has = held c.newest_key-newest.result (newest_key s) r (released s) c.newest_key-newest.ensures.number (ap released c.self.view_is) c.newest_key-newest.ensures.has in
+    refused_moments (newest_key s) r s c.prepare.new.self (ap released c.self.view_is) has stands c.in-Err.ensures.err (λ k. cert_record (declared_text s k c.args.changes.now)) leaf
 
 pub returns-in-Err-clause-tried : goal.returns-in-Err-clause-tried
-returns-in-Err-clause-tried g c = refused_tried c.args.self.now c.prepare.new.self c.in-Err.ensures.err (λ k. cert_record (declared_text c.args.self.now k c.args.changes.now))
+returns-in-Err-clause-tried g c = refused_tried (newest_key c.args.self.now) c.args.self.now c.prepare.new.self c.in-Err.ensures.err (λ k. cert_record (declared_text c.args.self.now k c.args.changes.now))
 
 pub returns-in-Err-clause-others : goal.returns-in-Err-clause-others
-returns-in-Err-clause-others g c = none_used c.args.self.now c.prepare.new.self c.in-Err.ensures.err
+returns-in-Err-clause-others g c = none_used (newest_key c.args.self.now) c.args.self.now c.prepare.new.self c.in-Err.ensures.err
 
 pub returns-clause-others : goal.returns-clause-others
 returns-clause-others g c =
     let new = c.declare.new.self in
     let is = c.self-2.view_is ∙ c.in-Ok.ensures.over in
-    subst (λ (o : Released). OthersStay 0 o.devices new.devices) (ap released is) c.declare.ensures.others
+    subst (λ (o : Released). OthersStay (newest_key c.args.self.now) o.devices new.devices) (ap released is) (rw c.newest_key-newest.ensures.number at c.declare.ensures.others)
 
 pub returns-in-Err-clause-no_leaf : goal.returns-in-Err-clause-no_leaf
 returns-in-Err-clause-no_leaf g c = same_error c.in-Err.error error.NoLeaf _ c.in-Err.ensures.no_leaf
@@ -41,17 +43,17 @@ pub returns-in-Err-clause-no_number : goal.returns-in-Err-clause-no_number
 returns-in-Err-clause-no_number g c = same_error c.in-Err.error error.NoNumber _ c.in-Err.ensures.no_number
 
 pub key-requires : goal.key-requires
-key-requires g c = c.type_invariant.ensures.some
+key-requires g c = subst (λ (o : Released). HasKey c.newest_key-newest.result o) (sym (ap released c.self.view_is)) c.newest_key-newest.ensures.has
 
 pub declare-requires-clause-key : goal.declare-requires-clause-key
 declare-requires-clause-key g c =
     let is = c.self-2.view_is ∙ c.in-Ok.ensures.over in
-    subst (λ (o : Released). HasKey 0 o) (ap released c.self.view_is ∙ sym (ap released is)) c.type_invariant.ensures.some
+    subst (λ (o : Released). HasKey c.newest_key-newest.result o) (sym (ap released is)) c.newest_key-newest.ensures.has
 
 pub declare-requires-clause-free : goal.declare-requires-clause-free
 declare-requires-clause-free g c full =
     let is = c.self-2.view_is ∙ c.in-Ok.ensures.over in
-    c.in-Ok.ensures.free (subst (λ (o : Released). IsKeyUsedUp 0 o) (ap released is) full)
+    c.in-Ok.ensures.free (subst (λ (o : Released). IsKeyUsedUp (newest_key c.args.self.now) o) (ap released is) (rw c.newest_key-newest.ensures.number at full))
 
 pub declare-requires-clause-own : goal.declare-requires-clause-own
 declare-requires-clause-own g c =
@@ -62,12 +64,17 @@ pub invariant_of-self : goal.invariant_of-self
 invariant_of-self g c =
     let s = c.args.self.now in
     let r = c.self-2.inside.releases in
+    let n = c.newest_key-newest.result in
     let new = c.declare.new.self in
     let is = c.self-2.view_is ∙ c.in-Ok.ensures.over in
     let same : c.self.inside.releases ≡ r = ap released c.self.view_is ∙ sym (ap released is) in
-    let key = c.as_bytes-size.ensures.same ∙ c.key.ensures ∙ ap (λ (o : Released). public_key_of (secret_at 0 o)) same in
-    let some : IsKeyUsedUp 0 r → ⊥ = λ none. c.in-Ok.ensures.free (subst (λ (o : Released). IsKeyUsedUp 0 o) (ap released is) none) in
-    rw c.put_in.ensures (record { of_checked = tt; of_accepted = tt }, λ own. own_after c.declare.result r new c.as_bytes-size.result.now c.in-Ok.prepared.0 c.in-Ok.prepared.1 key c.as_bytes-size.ensures.size some c.declare.ensures.declared c.declare.ensures.err (c.self-2.invariant.1 own))
+    let key = c.as_bytes-size.ensures.same ∙ c.key.ensures ∙ ap (λ (o : Released). public_key_of (secret_at n o)) same in
+    let some : IsKeyUsedUp n r → ⊥ = λ none. c.in-Ok.ensures.free (subst (λ (o : Released). IsKeyUsedUp (newest_key s) o) (ap released is) (rw c.newest_key-newest.ensures.number at none)) in
+    rw c.put_in.ensures (
+      record { of_checked = tt; of_accepted = tt },
+      kept_signer c.self-2.inside.signer c.if_same-self-inside.result n r new c.if_same-self-inside.ensures c.self-2.invariant.1
+          (own_after c.declare.result n r new c.as_bytes-size.result.now c.in-Ok.prepared.0 c.in-Ok.prepared.1 key c.as_bytes-size.ensures.size some c.declare.ensures.declared c.declare.ensures.err),
+    )
 
 pub returns-clause-declared : goal.returns-clause-declared
 returns-clause-declared g c =
@@ -76,7 +83,7 @@ returns-clause-declared g c =
     let new = c.declare.new.self in
     let is = c.self-2.view_is ∙ c.in-Ok.ensures.over in
     rw c.put_in.ensures (on_ok_weaker c.declare.result
-    (λ d. begun r new s c.self-2.inside.pinned c.self-2.inside.blocks (checked_of c.self-2.inside.progress) (accepted_of c.self-2.inside.progress) c.self-2.inside.view c.prepare.new.self.blocks is c.args.changes.now c.in-Ok.prepared.1 c.in-Ok.prepared.0 d.0 c.in-Ok.ensures.text c.in-Ok.ensures.number d.1 d.2) c.declare.ensures.declared)
+    (λ d. begun r new s c.self-2.inside.pinned c.self-2.inside.blocks (checked_of c.self-2.inside.progress) (accepted_of c.self-2.inside.progress) c.self-2.inside.view c.prepare.new.self.blocks is c.args.changes.now c.in-Ok.prepared.1 c.in-Ok.prepared.0 d.0 c.in-Ok.ensures.text c.in-Ok.ensures.number d.1 d.2) (rw c.newest_key-newest.ensures.number at c.declare.ensures.declared))
 
 pub returns-clause-any_moment : goal.returns-clause-any_moment
 returns-clause-any_moment g c =
@@ -84,8 +91,8 @@ returns-clause-any_moment g c =
     let r = c.self-2.inside.releases in
     let new = c.declare.new.self in
     let is = c.self-2.view_is ∙ c.in-Ok.ensures.over in
-    seen (λ (o : Released) (t : Bytes). (leaf : LeafNumber) → IsLeastFree (ledger_at 0 o.devices).file.now.text leaf → AnyMoment leaf (cert_record (sent o 0 leaf t)) (under 0 o.devices) (under 0 new.devices))
-    r (released s) c.in-Ok.prepared.1 (cert.spell (next_cert s c.args.changes.now)) (ap released is) c.in-Ok.ensures.text c.declare.ensures.any_moment
+    seen (λ (o : Released) (t : Bytes). (leaf : LeafNumber) → IsLeastFree (ledger_at (newest_key s) o.devices).file.now.text leaf → AnyMoment leaf (cert_record (sent o (newest_key s) leaf t)) (under (newest_key s) o.devices) (under (newest_key s) new.devices))
+    r (released s) c.in-Ok.prepared.1 (cert.spell (next_cert s c.args.changes.now)) (ap released is) c.in-Ok.ensures.text (rw c.newest_key-newest.ensures.number at c.declare.ensures.any_moment)
 
 pub returns-clause-tried : goal.returns-clause-tried
 returns-clause-tried g c =
@@ -94,7 +101,7 @@ returns-clause-tried g c =
     let new = c.declare.new.self in
     let is = c.self-2.view_is ∙ c.in-Ok.ensures.over in
     on_err_weaker c.declare.result
-    (seen (λ (o : Released) (t : Bytes). IsTried (λ leaf. cert_record (sent o 0 leaf t)) (under 0 o.devices) (under 0 new.devices)) r (released s) c.in-Ok.prepared.1 (cert.spell (next_cert s c.args.changes.now)) (ap released is) c.in-Ok.ensures.text) c.declare.ensures.tried
+    (seen (λ (o : Released) (t : Bytes). IsTried (λ leaf. cert_record (sent o (newest_key s) leaf t)) (under (newest_key s) o.devices) (under (newest_key s) new.devices)) r (released s) c.in-Ok.prepared.1 (cert.spell (next_cert s c.args.changes.now)) (ap released is) c.in-Ok.ensures.text) (rw c.newest_key-newest.ensures.number at c.declare.ensures.tried)
 
 pub returns-clause-no_leaf : goal.returns-clause-no_leaf
 returns-clause-no_leaf g c = (λ is. absurd (never_else _ c.declare.result error.NoLeaf (λ two. cc two) c.declare.ensures.device is), λ full. absurd (c.in-Ok.ensures.free full))
@@ -108,7 +115,7 @@ returns-clause-rose g c fault =
     let r = c.self-2.inside.releases in
     let new = c.declare.new.self in
     let is = c.self-2.view_is ∙ c.in-Ok.ensures.over in
-    subst (λ (o : Released). OneHasRisen (under 0 o.devices) (under 0 new.devices)) (ap released is) (at_device _ c.declare.result c.declare.ensures.device fault)
+    subst (λ (o : Released). OneHasRisen (under (newest_key s) o.devices) (under (newest_key s) new.devices)) (ap released is) (at_device _ c.declare.result (rw c.newest_key-newest.ensures.number at c.declare.ensures.device) fault)
 
 pub returns-clause-fails : goal.returns-clause-fails
 returns-clause-fails g c fault =
