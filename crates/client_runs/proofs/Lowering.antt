@@ -1,16 +1,18 @@
 -- What a client's calls are to client_releases.
-use Rattle.std.proofs.Common.{◌≡◌, ◌<◌, ℕ, zero, suc, List, [], ◌∷◌, length, map, take, get_or, Option, Some, None, Ok, Err, IfSome, IsSome, refl, sym, ap, ◌∙◌, subst, arith}
+use Rattle.std.proofs.Common.{◌≡◌, ◌<◌, ℕ, zero, suc, List, [], ◌∷◌, length, map, take, get_or, Option, Some, None, Result, Ok, Err, IfSome, IsSome, inl, inr, refl, sym, ap, ◌∙◌, subst, arith}
+use Rattle.std.specs.Prelude.{◌⊎◌, IsErrOf}
 use Rattle.layout.specs.Types.{Bytes, Digest}
 use Rattle.lms_sign.specs.Secret.{Secret}
 use Rattle.leaf_ledger.specs.Device.{History}
 use Rattle.leaf_ledger.specs.Ledger.{LeafNumber, LedgerState}
 use Rattle.version_order.specs.Structure.{structure}
 use Rattle.update_cert.specs.Change.{Change}
+use Rattle.client_releases.specs.declared.error.ClientError.{ClientError}
 use Rattle.client_releases.specs.declared.error.ClientError.TheVariants as error
-use Rattle.client_releases.specs.Releasing.{IsKept, IsTried, ledger_at, no_ledger, structure_record, under}
+use Rattle.client_releases.specs.Releasing.{IsKept, IsTried, OthersStay, ledger_at, no_ledger, structure_record, under}
 use Rattle.client_releases.specs.Told.{HasKey, IsReleased}
 use Rattle.release_runs.specs.Steps as low
-use Rattle.client_verify.specs.State.{IsOfDeclared, Ready, State, next_cert, next_structure, on, over, released, signed_over, signed_text}
+use Rattle.client_verify.specs.State.{IsOfDeclared, Ready, State, newest_key, next_cert, next_structure, on, over, released, signed_over, signed_text, signing_key}
 use Rattle.client_steps.specs.Steps.{Client, Closed, HasBegun, HasSigned, IsHandedBack, IsLeft, IsOpened, IsSound, Open, Owner, Parts}
 
 -- the owner, the devices and the client, as client_releases has them
@@ -64,12 +66,17 @@ low_handed_back s p one is = record { ledgers = ap (λ (h : History). h ∷ []) 
 
 -- ---- certificates
 
-module _ (s new : State) (has : HasKey 0 (released s)) (changes : List (Change Digest)) (laid : List Bytes) where
-  pub low_begun : (text : Bytes) → HasBegun s changes laid (Ok text) new → low.HasDeclared (released s) 0 (next_cert s changes) (Ok text) (released new)
-  low_begun text b = record { idle = b.idle; has = has; fits = b.fits; user = refl; declared = (b.declared.0, b.declared.1, ap released b.declared.2); text = b.text; tried = tt; others = b.others; err = tt }
+-- there is a newest key
+newest_held : (s : State) → HasKey 0 (released s) → HasKey (newest_key s) (released s)
+unfolding newest_key
+newest_held s some = omega (arith, some)
 
-  pub low_begin_failed : HasBegun s changes laid (Err error.Device) new → low.HasDeclared (released s) 0 (next_cert s changes) (Err error.Device) (released new)
-  low_begin_failed b = record { idle = b.idle; has = has; fits = b.fits_device refl; user = refl; declared = tt; text = tt; tried = b.tried; others = b.others; err = ap released (b.fails refl) }
+module _ (s new : State) (some : HasKey 0 (released s)) (changes : List (Change Digest)) (laid : List Bytes) where
+  pub low_begun : (text : Bytes) → HasBegun s changes laid (Ok text) new → low.HasDeclared (released s) (newest_key s) (next_cert s changes) (Ok text) (released new)
+  low_begun text b = record { idle = b.idle; has = newest_held s some; fits = b.fits; user = refl; declared = (b.declared.0, b.declared.1, ap released b.declared.2); text = b.text; tried = tt; others = b.others; err = tt }
+
+  pub low_begin_failed : HasBegun s changes laid (Err error.Device) new → low.HasDeclared (released s) (newest_key s) (next_cert s changes) (Err error.Device) (released new)
+  low_begin_failed b = record { idle = b.idle; has = newest_held s some; fits = b.fits_device refl; user = refl; declared = tt; text = tt; tried = b.tried; others = b.others; err = ap released (b.fails refl) }
 
 -- ---- structures
 
@@ -87,35 +94,40 @@ module _ (s new : State) (y : Ready) (ready : s.accepted ≡ Some y) where
   pub of_declared : IsSound (Open s) → IsOfDeclared (released s) y.lists.own.plan
   of_declared before = if_ready (λ r. IsOfDeclared (released s) r.lists.own.plan) before.1.of_accepted
 
-  pub low_signed : (text : Bytes) → IsSound (Open s) → HasSigned s (Ok text) new → low.HasSigned (released s) 0 (next_structure s y) (Ok text) (released new)
+  -- the key that signed is there
+  if_held : (answer : Result Bytes ClientError) → IsErrOf answer error.NoKey ⊎ HasKey (signing_key s y) (released s) → (IsErrOf answer error.NoKey → ⊥) → HasKey (signing_key s y) (released s)
+  if_held answer (inl lacks) other = absurd (other lacks)
+  if_held answer (inr has) other = has
+
+  pub low_signed : (text : Bytes) → IsSound (Open s) → HasSigned s (Ok text) new → low.HasSigned (released s) (signing_key s y) (next_structure s y) (Ok text) (released new)
   low_signed text before b =
       let declared = of_declared before in
-      let done = if_ready (λ r. (leaf : LeafNumber) × IsKept leaf (structure_record (signed_text s leaf r)) (under 0 s.devices) (under 0 new.devices) × (new ≡ over new.blocks (on new.devices (signed_over s leaf r)))) b.signed in
+      let done = if_ready (λ r. (leaf : LeafNumber) × IsKept leaf (structure_record (signed_text s leaf r)) (under (signing_key s r) s.devices) (under (signing_key s r) new.devices) × (new ≡ over new.blocks (on new.devices (signed_over s leaf r)))) b.signed in
       record {
         declared = declared.is_declared;
-        has = before.0.some;
+        has = if_held (Ok text) (if_ready (λ r. IsErrOf (Ok text) error.NoKey ⊎ HasKey (signing_key s r) (released s)) b.own) (λ is. cc is);
         fits = if_ready (λ r. structure.Fits (next_structure s r)) b.fits;
         user = declared.user;
         number = declared.number;
         signed = (done.0, done.1, ap released done.2);
         text = b.text;
         tried = tt;
-        others = b.others;
+        others = if_ready (λ r. OthersStay (signing_key s r) s.devices new.devices) b.others;
         err = tt;
       }
 
-  pub low_sign_failed : IsSound (Open s) → HasSigned s (Err error.Device) new → low.HasSigned (released s) 0 (next_structure s y) (Err error.Device) (released new)
+  pub low_sign_failed : IsSound (Open s) → HasSigned s (Err error.Device) new → low.HasSigned (released s) (signing_key s y) (next_structure s y) (Err error.Device) (released new)
   low_sign_failed before b =
       let declared = of_declared before in
       record {
         declared = declared.is_declared;
-        has = before.0.some;
+        has = if_held (Err error.Device) (if_ready (λ r. IsErrOf {T = Bytes} (Err error.Device) error.NoKey ⊎ HasKey (signing_key s r) (released s)) b.own) (λ is. cc is);
         fits = if_ready (λ r. structure.Fits (next_structure s r)) (b.fits_device refl);
         user = declared.user;
         number = declared.number;
         signed = tt;
         text = tt;
-        tried = if_ready (λ r. IsTried (λ leaf. structure_record (signed_text s leaf r)) (under 0 s.devices) (under 0 new.devices)) b.tried;
-        others = b.others;
+        tried = if_ready (λ r. IsTried (λ leaf. structure_record (signed_text s leaf r)) (under (signing_key s r) s.devices) (under (signing_key s r) new.devices)) b.tried;
+        others = if_ready (λ r. OthersStay (signing_key s r) s.devices new.devices) b.others;
         err = ap released (b.fails refl);
       }

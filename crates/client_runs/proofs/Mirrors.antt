@@ -12,7 +12,7 @@ use Rattle.release_runs.specs.Runs as low_run
 use Rattle.release_runs.specs.Released as low_released
 use Rattle.release_runs.proofs.Holds as low_holds
 use Rattle.release_runs.proofs.Runs as low_runs
-use Rattle.client_verify.specs.State.{State, next_cert, next_structure, released}
+use Rattle.client_verify.specs.State.{State, newest_key, next_cert, next_structure, released, signing_key}
 use Rattle.client_steps.specs.Steps.{Begins, Caches, Call, Client, Closed, Closes, Commits, Crashes, Gives, HasBegun, HasCommitted, HasSigned, Hears, IsSound, IsStep, Looks, Open, Opens, Owner, Signs, Takes, first}
 use Rattle.client_runs.specs.Runs.{Event, IsRun, Keys, client_of, owner}
 use Rattle.client_runs.specs.Released.{released as released_in, released_by}
@@ -65,10 +65,10 @@ module _ (o : Owner) where
 
     module _ (changes : List (Change Digest)) (laid : List Bytes) where
       begins : (text : Bytes) → HasBegun s changes laid (Ok text) new → Mirrors o (Open new) (text ∷ texts)
-      begins text b = moves texts (Open s) m (low.Declares 0 (next_cert s changes) (Ok text)) (Open new) (low_begun s new was.0.some changes laid text b) sound.0 refl
+      begins text b = moves texts (Open s) m (low.Declares (newest_key s) (next_cert s changes) (Ok text)) (Open new) (low_begun s new was.0.some changes laid text b) sound.0 refl
 
       begin_fails : HasBegun s changes laid (Err error.Device) new → Mirrors o (Open new) texts
-      begin_fails b = moves texts (Open s) m (low.Declares 0 (next_cert s changes) (Err error.Device)) (Open new) (low_begin_failed s new was.0.some changes laid b) sound.0 refl
+      begin_fails b = moves texts (Open s) m (low.Declares (newest_key s) (next_cert s changes) (Err error.Device)) (Open new) (low_begin_failed s new was.0.some changes laid b) sound.0 refl
 
       begin_refused : (e : ClientError) → e ≢ error.Device → HasBegun s changes laid (Err e) new → Mirrors o (Open new) texts
       begin_refused e other b = same_as (b.err other)
@@ -76,12 +76,12 @@ module _ (o : Owner) where
     signs : (text : Bytes) → HasSigned s (Ok text) new → Mirrors o (Open new) (text ∷ texts)
     signs text b =
         with_ready s (Mirrors o (Open new) (text ∷ texts)) b.ready
-        (λ y ready. moves texts (Open s) m (low.Signs 0 (next_structure s y) (Ok text)) (Open new) (low_signed s new y ready text was b) sound.0 tt)
+        (λ y ready. moves texts (Open s) m (low.Signs (signing_key s y) (next_structure s y) (Ok text)) (Open new) (low_signed s new y ready text was b) sound.0 tt)
 
     sign_fails : HasSigned s (Err error.Device) new → Mirrors o (Open new) texts
     sign_fails b =
         with_ready s (Mirrors o (Open new) texts) b.ready
-        (λ y ready. moves texts (Open s) m (low.Signs 0 (next_structure s y) (Err error.Device)) (Open new) (low_sign_failed s new y ready was b) sound.0 tt)
+        (λ y ready. moves texts (Open s) m (low.Signs (signing_key s y) (next_structure s y) (Err error.Device)) (Open new) (low_sign_failed s new y ready was b) sound.0 tt)
 
     sign_refused : (e : ClientError) → e ≢ error.Device → HasSigned s (Err e) new → Mirrors o (Open new) texts
     sign_refused e other b = same_as (b.err other)
@@ -105,6 +105,7 @@ module _ (o : Owner) where
   step texts (Open s) (Begins changes laid (Err error.NoLeaf)) (Open new) m was is sound = begin_refused texts s m was new sound changes laid error.NoLeaf (λ d. cc d) is
   step texts (Open s) (Begins changes laid (Err error.Device)) (Open new) m was is sound = begin_fails texts s m was new sound changes laid is
   step texts (Open s) (Begins changes laid (Err error.NoNumber)) (Open new) m was is sound = begin_refused texts s m was new sound changes laid error.NoNumber (λ d. cc d) is
+  step texts (Open s) (Begins changes laid (Err error.NoKey)) (Open new) m was is sound = begin_refused texts s m was new sound changes laid error.NoKey (λ d. cc d) is
   step texts (Open s) (Begins changes laid (Err error.Foreign)) (Open new) m was is sound = begin_refused texts s m was new sound changes laid error.Foreign (λ d. cc d) is
   step texts (Open s) (Begins changes laid (Err error.Damaged)) (Open new) m was is sound = begin_refused texts s m was new sound changes laid error.Damaged (λ d. cc d) is
   step texts (Open s) (Hears text answer) (Open new) m was is sound = quiet texts (Open s) m (Open new) (ap low.Open (hears s text answer new is))
@@ -114,6 +115,7 @@ module _ (o : Owner) where
   step texts (Open s) (Signs (Err error.NoLeaf)) (Open new) m was is sound = sign_refused texts s m was new sound error.NoLeaf (λ d. cc d) is
   step texts (Open s) (Signs (Err error.Device)) (Open new) m was is sound = sign_fails texts s m was new sound is
   step texts (Open s) (Signs (Err error.NoNumber)) (Open new) m was is sound = sign_refused texts s m was new sound error.NoNumber (λ d. cc d) is
+  step texts (Open s) (Signs (Err error.NoKey)) (Open new) m was is sound = sign_refused texts s m was new sound error.NoKey (λ d. cc d) is
   step texts (Open s) (Signs (Err error.Foreign)) (Open new) m was is sound = sign_refused texts s m was new sound error.Foreign (λ d. cc d) is
   step texts (Open s) (Signs (Err error.Damaged)) (Open new) m was is sound = sign_refused texts s m was new sound error.Damaged (λ d. cc d) is
   step texts (Open s) (Commits status) (Open new) m was is sound = commits texts s m was new sound status is

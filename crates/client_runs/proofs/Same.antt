@@ -10,7 +10,7 @@ use Rattle.client_releases.specs.declared.error.ClientError.{ClientError}
 use Rattle.client_releases.specs.declared.error.ClientError.TheVariants as error
 use Rattle.client_releases.specs.Releasing.{IsKept, structure_record, under}
 use Rattle.leaf_ledger.specs.Ledger.{LeafNumber}
-use Rattle.client_verify.specs.State.{State, on, over, released, signed_over, signed_text}
+use Rattle.client_verify.specs.State.{State, on, over, released, signed_over, signed_text, signing_key}
 use Rattle.client_runs.specs.Slots.{AreSame}
 use Rattle.client_steps.specs.Steps.{Asks, Begins, Caches, Call, Closes, Commits, Crashes, FromOpen, Gives, HasBegun, HasCached, HasCommitted, HasGiven, HasHeard, HasLooked, HasSigned, HasTaken, Hears, Looks, Open, Opens, Sees, Signs, Takes}
 use Rattle.client_runs.proofs.Lowering.{if_ready, with_ready}
@@ -33,6 +33,7 @@ module _ (s new : State) where
   unless_device error.Memory failed else_same = stays (else_same (λ e. cc e))
   unless_device error.NoLeaf failed else_same = stays (else_same (λ e. cc e))
   unless_device error.NoNumber failed else_same = stays (else_same (λ e. cc e))
+  unless_device error.NoKey failed else_same = stays (else_same (λ e. cc e))
   unless_device error.Foreign failed else_same = stays (else_same (λ e. cc e))
   unless_device error.Damaged failed else_same = stays (else_same (λ e. cc e))
 
@@ -55,7 +56,7 @@ module _ (s new : State) where
   pub signs : (answer : Result Bytes ClientError) → HasSigned s answer new → AreSame s new
   signs (Ok text) b =
       with_ready s (AreSame s new) b.ready
-      (λ y is. let done = if_ready s new y is (λ r. (leaf : LeafNumber) × IsKept leaf (structure_record (signed_text s leaf r)) (under 0 s.devices) (under 0 new.devices) × (new ≡ over new.blocks (on new.devices (signed_over s leaf r)))) b.signed in
+      (λ y is. let done = if_ready s new y is (λ r. (leaf : LeafNumber) × IsKept leaf (structure_record (signed_text s leaf r)) (under (signing_key s r) s.devices) (under (signing_key s r) new.devices) × (new ≡ over new.blocks (on new.devices (signed_over s leaf r)))) b.signed in
       ap (λ (n : State). n.secrets) done.2)
   signs (Err e) b = unless_device e (λ is. let left = b.fails (told_error e error.Device is) in ap (λ (n : State). n.secrets) left) b.err
 

@@ -48,7 +48,7 @@ module _ {D : Type 0} (history : D → History) (faults : D → ℕ) (user : ℕ
       → (e ≡ error.Foreign → OneIsForeign (key_files history faults (k ∷ [])))
       → (e ≡ error.Damaged → IsDamaged journal.history.now.text ⊎ TellsOfOther user journal.history.now.text)
       → (e ≡ error.Device → OneOfHasRisen (faults k.1 ∷ []) (map (λ x. faults x.1) keys) ⊎ HasRisen journal.faults after.faults)
-      → (e ≢ error.NoLeaf) × (e ≢ error.NoNumber)
+      → (e ≢ error.NoLeaf) × (e ≢ error.NoNumber) × (e ≢ error.NoKey)
       → AreLater (faults k.1 ∷ []) (map (λ x. faults x.1) keys) × (journal.faults ≤ after.faults)
       → IsRefused (owner_of user k.0 pinned) (before (k ∷ [])) e (record { ledger = ledger_in history faults keys; journal = after })
   refused k [] after e same moments foreign damaged device only later = absurd (cc same)
@@ -63,6 +63,7 @@ module _ {D : Type 0} (history : D → History) (faults : D → ℕ) (user : ℕ
     ];
     leaves = only.0;
     numbers = only.1;
+    keys = only.2;
     ledger_later = later.0.0;
     journal_later = later.1;
   }
@@ -73,7 +74,7 @@ module _ {D : Type 0} (history : D → History) (faults : D → ℕ) (user : ℕ
       → IfErr r (λ e. e.0 ≡ error.Foreign → OneIsForeign (key_files history faults keys))
       → IfErr r (λ e. e.0 ≡ error.Damaged → IsDamaged journal.history.now.text ⊎ TellsOfOther user journal.history.now.text)
       → IfErr r (λ e. e.0 ≡ error.Device → OneOfHasRisen (map (λ k. faults k.1) keys) (map (λ k. faults k.1) (keys_of e.1)) ⊎ HasRisen journal.faults (journal_of e.1).faults)
-      → IfErr r (λ e. (e.0 ≢ error.NoLeaf) × (e.0 ≢ error.NoNumber))
+      → IfErr r (λ e. (e.0 ≢ error.NoLeaf) × (e.0 ≢ error.NoNumber) × (e.0 ≢ error.NoKey))
       → IfErr r (λ e. AreLater (map (λ k. faults k.1) keys) (map (λ k. faults k.1) (keys_of e.1)) × (journal.faults ≤ (journal_of e.1).faults))
       → IfErr r (λ e. IsStep (owner_of user (secret_in keys) pinned) (closed_over (ledger_in history faults keys) journal) (Opens (Err e.0))
       (closed_over (ledger_in history faults (keys_of e.1)) (journal_of e.1)))

@@ -26,11 +26,11 @@ use Rattle.client_releases.specs.declared.phase.Phase.TheVariants as phase
 use Rattle.client_releases.specs.OwnKeys.{AreOpened, KeyFile}
 use Rattle.client_releases.specs.Releasing.{AnyMoment, IsKept, IsOpening, IsTried, OneHasRisen, OthersStay, cert_record}
 use Rattle.client_releases.specs.Releasing.{ledger_at, no_secret, structure_record, under}
-use Rattle.client_releases.specs.Told.{IsKeyUsedUp, IsReleased, IsToldBy, TellsOfOther}
+use Rattle.client_releases.specs.Told.{HasKey, IsKeyUsedUp, IsReleased, IsToldBy, TellsOfOther}
 use Rattle.client_verify.specs.declared.look.Look.{Look}
 use Rattle.client_verify.specs.declared.step.Step.{Step}
 use Rattle.client_verify.specs.Laid.{are_laid}
-use Rattle.client_verify.specs.State.{AreReplies, State, asked_of, committed, declared, declared_text, failed, next_cert, next_structure, on, opened, over, released, signed_over, signed_text}
+use Rattle.client_verify.specs.State.{AreReplies, State, asked_of, committed, declared, declared_text, failed, newest_key, next_cert, next_structure, on, opened, over, released, signed_over, signed_text, signer_of, signing_key}
 use Rattle.reply_check.specs.AskedBlock.{block_breaks}
 use Rattle.client_verify.specs.Holding.{HoldsAfter, LaysOut, LookHoldsAfter, with_cache}
 use Rattle.client_verify.specs.Judged.{Handed, Judged}
@@ -141,6 +141,7 @@ pub record IsRefused (o : Owner) (p : Parts) (e : ClientError) (new : Parts) : T
       ⊎ HasRisen p.journal.faults new.journal.faults
   pub leaves : e ≢ error.NoLeaf
   pub numbers : e ≢ error.NoNumber
+  pub keys : e ≢ error.NoKey
   pub ledger_later : p.ledger.faults ≤ new.ledger.faults
   pub journal_later : p.journal.faults ≤ new.journal.faults
 
@@ -156,24 +157,27 @@ pub record HasBegun (s : State) (changes : List (Change Digest)) (laid : List By
   pub few : length changes ≤ MOST_CHANGES
   pub were_laid : are_laid laid changes ≡ true
   pub declared : OnOk answer ((leaf : LeafNumber)
-      × IsKept leaf (cert_record (declared_text s leaf changes)) (under 0 s.devices) (under 0 new.devices)
+      × IsKept leaf (cert_record (declared_text s leaf changes)) (under (newest_key s) s.devices)
+      (under (newest_key s) new.devices)
       × (new ≡ over new.blocks (on new.devices (declared s leaf changes))))
   pub kept : OnOk answer (LaysOut s laid new.blocks)
   pub text : IfOk answer (λ text. text ≡ new.text)
   pub fits : OnOk answer (cert.Fits (next_cert s changes))
-  pub any_moment : (leaf : LeafNumber) → IsLeastFree (ledger_at 0 s.devices).file.now.text leaf
-      → AnyMoment leaf (cert_record (declared_text s leaf changes)) (under 0 s.devices) (under 0 new.devices)
-  pub tried : OnErr answer (IsTried (λ leaf. cert_record (declared_text s leaf changes)) (under 0 s.devices)
-      (under 0 new.devices))
-  pub no_leaf : IsErrOf answer error.NoLeaf ↔ IsKeyUsedUp 0 (released s)
+  pub any_moment : (leaf : LeafNumber) → IsLeastFree (ledger_at (newest_key s) s.devices).file.now.text leaf
+      → AnyMoment leaf (cert_record (declared_text s leaf changes)) (under (newest_key s) s.devices)
+      (under (newest_key s) new.devices)
+  pub tried : OnErr answer (IsTried (λ leaf. cert_record (declared_text s leaf changes))
+      (under (newest_key s) s.devices) (under (newest_key s) new.devices))
+  pub no_leaf : IsErrOf answer error.NoLeaf ↔ IsKeyUsedUp (newest_key s) (released s)
   pub no_number : IsErrOf answer error.NoNumber
-      ↔ ((s.number ≡ last_version) × (IsKeyUsedUp 0 (released s) → ⊥))
-  pub rose : IsErrOf answer error.Device → OneHasRisen (under 0 s.devices) (under 0 new.devices)
-  pub others : OthersStay 0 s.devices new.devices
+      ↔ ((s.number ≡ last_version) × (IsKeyUsedUp (newest_key s) (released s) → ⊥))
+  pub rose : IsErrOf answer error.Device → OneHasRisen (under (newest_key s) s.devices)
+      (under (newest_key s) new.devices)
+  pub others : OthersStay (newest_key s) s.devices new.devices
   pub fails : IsErrOf answer error.Device → new ≡ over new.blocks (on new.devices (failed s))
   pub kept_device : IsErrOf answer error.Device → LaysOut s laid new.blocks
   pub fits_device : IsErrOf answer error.Device → cert.Fits (next_cert s changes)
-  pub only : IfErr answer (λ e. (e ≢ error.Foreign) × (e ≢ error.Damaged))
+  pub only : IfErr answer (λ e. (e ≢ error.Foreign) × (e ≢ error.Damaged) × (e ≢ error.NoKey))
   pub err : IfErr answer (λ e. e ≢ error.Device → new ≡ s)
 
 pub record HasHeard (s : State) (text : Bytes) (answer : Result Asks ClientError) (new : State) : Type 0 where
@@ -197,19 +201,26 @@ pub record HasTaken (s : State) (block : Option Bytes) (answer : Result Asks Cli
 pub record HasSigned (s : State) (answer : Result Bytes ClientError) (new : State) : Type 0 where
   pub ready : IsSome s.accepted
   pub signed : OnOk answer (IfSome s.accepted (λ r. (leaf : LeafNumber)
-      × IsKept leaf (structure_record (signed_text s leaf r)) (under 0 s.devices) (under 0 new.devices)
+      × IsKept leaf (structure_record (signed_text s leaf r)) (under (signing_key s r) s.devices)
+      (under (signing_key s r) new.devices)
       × (new ≡ over new.blocks (on new.devices (signed_over s leaf r)))))
   pub gone : OnOk answer (LetsGo s.blocks new.blocks)
   pub text : IfOk answer (λ text. text ≡ new.text)
   pub fits : OnOk answer (IfSome s.accepted (λ r. structure.Fits (next_structure s r)))
-  pub any_moment : IfSome s.accepted (λ r. (leaf : LeafNumber) → IsLeastFree (ledger_at 0 s.devices).file.now.text leaf
-      → AnyMoment leaf (structure_record (signed_text s leaf r)) (under 0 s.devices) (under 0 new.devices))
+  pub any_moment : IfSome s.accepted (λ r. HasKey (signing_key s r) (released s)
+      → (leaf : LeafNumber) → IsLeastFree (ledger_at (signing_key s r) s.devices).file.now.text leaf
+      → AnyMoment leaf (structure_record (signed_text s leaf r)) (under (signing_key s r) s.devices)
+      (under (signing_key s r) new.devices))
   pub tried : IfSome s.accepted (λ r.
-      OnErr answer (IsTried (λ leaf. structure_record (signed_text s leaf r)) (under 0 s.devices)
-      (under 0 new.devices)))
-  pub no_leaf : IsErrOf answer error.NoLeaf ↔ IsKeyUsedUp 0 (released s)
-  pub rose : IsErrOf answer error.Device → OneHasRisen (under 0 s.devices) (under 0 new.devices)
-  pub others : OthersStay 0 s.devices new.devices
+      OnErr answer (IsTried (λ leaf. structure_record (signed_text s leaf r)) (under (signing_key s r) s.devices)
+      (under (signing_key s r) new.devices)))
+  pub no_key : IfSome s.accepted (λ r. IsErrOf answer error.NoKey ↔ (signer_of s r ≡ None))
+  pub no_leaf : IfSome s.accepted (λ r. IsErrOf answer error.NoLeaf
+      ↔ HasKey (signing_key s r) (released s) × IsKeyUsedUp (signing_key s r) (released s))
+  pub own : IfSome s.accepted (λ r. IsErrOf answer error.NoKey ⊎ HasKey (signing_key s r) (released s))
+  pub rose : IfSome s.accepted (λ r. IsErrOf answer error.Device → OneHasRisen (under (signing_key s r) s.devices)
+      (under (signing_key s r) new.devices))
+  pub others : IfSome s.accepted (λ r. OthersStay (signing_key s r) s.devices new.devices)
   pub fails : IsErrOf answer error.Device → new ≡ on new.devices (failed s)
   pub fits_device : IsErrOf answer error.Device → IfSome s.accepted (λ r. structure.Fits (next_structure s r))
   pub only : IfErr answer (λ e. (e ≢ error.NoNumber) × (e ≢ error.Foreign) × (e ≢ error.Damaged))

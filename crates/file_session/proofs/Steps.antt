@@ -14,7 +14,7 @@ use Rattle.client_verify.specs.declared.look.Look.{Look}
 use Rattle.client_verify.specs.declared.look.Look.TheVariants as look
 use Rattle.client_verify.specs.declared.step.Step.{Step}
 use Rattle.client_verify.specs.declared.step.Step.TheVariants as step
-use Rattle.client_verify.specs.State.{AcceptedView, Checked, IsOfDeclared, Ready, State, asked_of, committed, failed, on, over, signed_over, signed_text}
+use Rattle.client_verify.specs.State.{AcceptedView, Checked, IsOfDeclared, Ready, State, asked_of, committed, failed, on, over, signed_over, signed_text, signing_key}
 use Rattle.client_verify.specs.Standing.{HasMore, IsLacking, LookHoldsMore, OnlyJudges}
 use Rattle.client_verify.specs.Standing as client
 use Rattle.client_verify.specs.Holding.{LookHoldsAfter}
@@ -61,13 +61,13 @@ of_declared r (Some y) some h = h.is_declared
 
 -- ---- a structure was signed, or it wasn't
 
-signed_at : (s new : State) (o : Option Ready) → IsSome o → IfSome o (λ r. (leaf : LeafNumber) × IsKept leaf (structure_record (signed_text s leaf r)) (under 0 s.devices) (under 0 new.devices) × (new ≡ over new.blocks (on new.devices (signed_over s leaf r)))) → new.phase ≡ phase.Signed
+signed_at : (s new : State) (o : Option Ready) → IsSome o → IfSome o (λ r. (leaf : LeafNumber) × IsKept leaf (structure_record (signed_text s leaf r)) (under (signing_key s r) s.devices) (under (signing_key s r) new.devices) × (new ≡ over new.blocks (on new.devices (signed_over s leaf r)))) → new.phase ≡ phase.Signed
 signed_at s new None some h = absurd cc
 signed_at s new (Some r) some (leaf, kept, is) = ap (λ (n : State). n.phase) is
 
 -- the operation isn't committed
 pub sign_unfinished : {A : Type 0} (s new : State) (x : Result (Vec ℕ A) ClientError) → IsSome s.accepted → s.phase ≡ phase.Declared
-    → OnOk x (IfSome s.accepted (λ r. (leaf : LeafNumber) × IsKept leaf (structure_record (signed_text s leaf r)) (under 0 s.devices) (under 0 new.devices) × (new ≡ over new.blocks (on new.devices (signed_over s leaf r)))))
+    → OnOk x (IfSome s.accepted (λ r. (leaf : LeafNumber) × IsKept leaf (structure_record (signed_text s leaf r)) (under (signing_key s r) s.devices) (under (signing_key s r) new.devices) × (new ≡ over new.blocks (on new.devices (signed_over s leaf r)))))
     → (IsErrOf x error.Device → new ≡ on new.devices (failed s)) → IfErr x (λ e. e ≢ error.Device → new ≡ s)
     → IsUnfinished new
 sign_unfinished s new (Ok x) some is ok device err = signed_is new (signed_at s new s.accepted some ok)
@@ -75,6 +75,7 @@ sign_unfinished s new (Err error.Device) some is ok device err = failed_is new (
 sign_unfinished s new (Err error.Memory) some is ok device err = declared_is new (ap (λ (n : State). n.phase) (err (λ e. absurd cc)) ∙ is)
 sign_unfinished s new (Err error.NoLeaf) some is ok device err = declared_is new (ap (λ (n : State). n.phase) (err (λ e. absurd cc)) ∙ is)
 sign_unfinished s new (Err error.NoNumber) some is ok device err = declared_is new (ap (λ (n : State). n.phase) (err (λ e. absurd cc)) ∙ is)
+sign_unfinished s new (Err error.NoKey) some is ok device err = declared_is new (ap (λ (n : State). n.phase) (err (λ e. absurd cc)) ∙ is)
 sign_unfinished s new (Err error.Foreign) some is ok device err = declared_is new (ap (λ (n : State). n.phase) (err (λ e. absurd cc)) ∙ is)
 sign_unfinished s new (Err error.Damaged) some is ok device err = declared_is new (ap (λ (n : State). n.phase) (err (λ e. absurd cc)) ∙ is)
 

@@ -15,7 +15,7 @@ use Rattle.client_releases.specs.declared.error.ClientError.{ClientError}
 use Rattle.client_releases.specs.declared.error.ClientError.TheVariants as error
 use Rattle.client_releases.specs.Told.{Released, cert_in}
 use Rattle.client_verify.specs.Laid.{are_laid}
-use Rattle.client_verify.specs.State.{Ready, State, next_cert, next_structure, released as released_in_state}
+use Rattle.client_verify.specs.State.{Ready, State, newest_key, next_cert, next_structure, released as released_in_state, signing_key}
 use Rattle.agreement.proofs.Members.{In, in-left, in-right}
 use Rattle.release_runs.proofs.Files.{lies_on, still_sure}
 use Rattle.release_runs.proofs.Holds as low_holds
@@ -135,12 +135,12 @@ module _ (Inside : Cert → List Bytes → Type 0) where
 
     begins : (s new : State) (changes : List (Change Digest)) (laid : List Bytes) (text : Bytes) (sent : List Bytes) → IsSound (Open s) → Inside (next_cert s changes) laid → Holds (Open s) sent → HasBegun s changes laid (Ok text) new → After sent (Begins changes laid (Ok text)) (Open new)
     begins s new changes laid text sent always inside h b =
-        let k = declares (low_owner o) (Unit {0}) h.story h.tried sent (released_in_state s) h.low 0 (next_cert s changes) (released_in_state new) text (low_begun s new always.0.some changes laid text b) in
+        let k = declares (low_owner o) (Unit {0}) h.story h.tried sent (released_in_state s) h.low (newest_key s) (next_cert s changes) (released_in_state new) text (low_begun s new always.0.some changes laid text b) in
         record {
-          story = OfCert 0 (next_cert s changes) k.0 ∷ h.story;
+          story = OfCert (newest_key s) (next_cert s changes) k.0 ∷ h.story;
           tried = None;
           low =
-              low_holds.where_in_turn (low_owner o) ((s.number + 1 ≡ s.number + 1) × Unit {0}) (Unit {0}) (OfCert 0 (next_cert s changes) k.0 ∷ h.story) None (low_client (Open new)) (text ∷ sent)
+              low_holds.where_in_turn (low_owner o) ((s.number + 1 ≡ s.number + 1) × Unit {0}) (Unit {0}) (OfCert (newest_key s) (next_cert s changes) k.0 ∷ h.story) None (low_client (Open new)) (text ∷ sent)
               (λ _. (refl, tt)) k.1;
           certs = λ n c q i. elim i [
             | inl e ↦ (let same : c ≡ next_cert s changes = cc e in subst IsBegun (sym same) (record { laid = laid; inside = inside; are = b.were_laid }))
@@ -151,7 +151,7 @@ module _ (Inside : Cert → List Bytes → Type 0) where
 
     begin_fails : (s new : State) (changes : List (Change Digest)) (laid : List Bytes) (sent : List Bytes) → IsSound (Open s) → Inside (next_cert s changes) laid → Holds (Open s) sent → HasBegun s changes laid (Err error.Device) new → Holds (Open new) sent
     begin_fails s new changes laid sent always inside h b =
-        let k = declare_fails (low_owner o) (Unit {0}) h.story h.tried sent (released_in_state s) h.low 0 (next_cert s changes) (released_in_state new) error.Device (low_begin_failed s new always.0.some changes laid b) in
+        let k = declare_fails (low_owner o) (Unit {0}) h.story h.tried sent (released_in_state s) h.low (newest_key s) (next_cert s changes) (released_in_state new) error.Device (low_begin_failed s new always.0.some changes laid b) in
         record {
           story = h.story;
           tried = k.0;
@@ -160,17 +160,17 @@ module _ (Inside : Cert → List Bytes → Type 0) where
           last = tried_cert k.0 k.1;
         }
       where
-        tried_cert : (some : Option Release) → IsTriedCert 0 (next_cert s changes) some → TriedIsBegun some
+        tried_cert : (some : Option Release) → IsTriedCert (newest_key s) (next_cert s changes) some → TriedIsBegun some
         tried_cert some (inl none) = subst TriedIsBegun (sym none) tt
         tried_cert some (inr (q, one)) = subst TriedIsBegun (sym one) (record { laid = laid; inside = inside; are = b.were_laid })
 
     signs_ok : (s new : State) (y : Ready) → s.accepted ≡ Some y → (text : Bytes) (sent : List Bytes) → IsSound (Open s) → Holds (Open s) sent → HasSigned s (Ok text) new → After sent (Signs (Ok text)) (Open new)
     signs_ok s new y ready text sent always h b =
-        let k = signs (low_owner o) (Unit {0}) h.story h.tried sent (released_in_state s) h.low 0 (next_structure s y) (released_in_state new) text (low_signed s new y ready text always b) in
+        let k = signs (low_owner o) (Unit {0}) h.story h.tried sent (released_in_state s) h.low (signing_key s y) (next_structure s y) (released_in_state new) text (low_signed s new y ready text always b) in
         record {
-          story = OfStructure 0 (next_structure s y) k.0 ∷ h.story;
+          story = OfStructure (signing_key s y) (next_structure s y) k.0 ∷ h.story;
           tried = None;
-          low = low_holds.where_in_turn (low_owner o) (Unit {0} × Unit {0}) (Unit {0}) (OfStructure 0 (next_structure s y) k.0 ∷ h.story) None (low_client (Open new)) (text ∷ sent) (λ _. (tt, tt)) k.1;
+          low = low_holds.where_in_turn (low_owner o) (Unit {0} × Unit {0}) (Unit {0}) (OfStructure (signing_key s y) (next_structure s y) k.0 ∷ h.story) None (low_client (Open new)) (text ∷ sent) (λ _. (tt, tt)) k.1;
           certs = λ n c q i. elim i [
             | inl e ↦ absurd (cc e)
             | inr j ↦ h.certs n c q j
@@ -180,7 +180,7 @@ module _ (Inside : Cert → List Bytes → Type 0) where
 
     sign_fails_here : (s new : State) (y : Ready) → s.accepted ≡ Some y → (sent : List Bytes) → IsSound (Open s) → Holds (Open s) sent → HasSigned s (Err error.Device) new → Holds (Open new) sent
     sign_fails_here s new y ready sent always h b =
-        let k = sign_fails (low_owner o) (Unit {0}) h.story h.tried sent (released_in_state s) h.low 0 (next_structure s y) (released_in_state new) error.Device (low_sign_failed s new y ready always b) in
+        let k = sign_fails (low_owner o) (Unit {0}) h.story h.tried sent (released_in_state s) h.low (signing_key s y) (next_structure s y) (released_in_state new) error.Device (low_sign_failed s new y ready always b) in
         record {
           story = h.story;
           tried = k.0;
@@ -189,7 +189,7 @@ module _ (Inside : Cert → List Bytes → Type 0) where
           last = tried_structure k.0 k.1;
         }
       where
-        tried_structure : (some : Option Release) → IsTriedStructure 0 (next_structure s y) some → TriedIsBegun some
+        tried_structure : (some : Option Release) → IsTriedStructure (signing_key s y) (next_structure s y) some → TriedIsBegun some
         tried_structure some (inl none) = subst TriedIsBegun (sym none) tt
         tried_structure some (inr (q, one)) = subst TriedIsBegun (sym one) tt
 
@@ -211,6 +211,7 @@ module _ (Inside : Cert → List Bytes → Type 0) where
     step (Open s) (Begins changes laid (Err error.Memory)) (Open new) sent into was h is sound = same_as s new sent h (is.err (λ d. cc d))
     step (Open s) (Begins changes laid (Err error.NoLeaf)) (Open new) sent into was h is sound = same_as s new sent h (is.err (λ d. cc d))
     step (Open s) (Begins changes laid (Err error.NoNumber)) (Open new) sent into was h is sound = same_as s new sent h (is.err (λ d. cc d))
+    step (Open s) (Begins changes laid (Err error.NoKey)) (Open new) sent into was h is sound = same_as s new sent h (is.err (λ d. cc d))
     step (Open s) (Begins changes laid (Err error.Foreign)) (Open new) sent into was h is sound = same_as s new sent h (is.err (λ d. cc d))
     step (Open s) (Begins changes laid (Err error.Damaged)) (Open new) sent into was h is sound = same_as s new sent h (is.err (λ d. cc d))
     step (Open s) (Hears text answer) (Open new) sent into was h is sound = same_released s new sent h (hears s text answer new is)
@@ -220,6 +221,7 @@ module _ (Inside : Cert → List Bytes → Type 0) where
     step (Open s) (Signs (Err error.Memory)) (Open new) sent into was h is sound = same_as s new sent h (is.err (λ d. cc d))
     step (Open s) (Signs (Err error.NoLeaf)) (Open new) sent into was h is sound = same_as s new sent h (is.err (λ d. cc d))
     step (Open s) (Signs (Err error.NoNumber)) (Open new) sent into was h is sound = same_as s new sent h (is.err (λ d. cc d))
+    step (Open s) (Signs (Err error.NoKey)) (Open new) sent into was h is sound = same_as s new sent h (is.err (λ d. cc d))
     step (Open s) (Signs (Err error.Foreign)) (Open new) sent into was h is sound = same_as s new sent h (is.err (λ d. cc d))
     step (Open s) (Signs (Err error.Damaged)) (Open new) sent into was h is sound = same_as s new sent h (is.err (λ d. cc d))
     step (Open s) (Commits st) (Open new) sent into was h is sound = commits s new st sent h is

@@ -20,7 +20,7 @@ use Rattle.release_runs.proofs.Holds as low_holds
 use Rattle.release_runs.proofs.Opening.{IsOf, opened_holds}
 use Rattle.release_runs.proofs.Releasing.{IsTriedCert, IsTriedStructure, declare_fails, declares, sign_fails, signs}
 use Rattle.release_runs.proofs.Stories.{OfCert, OfStructure, Release, last_in, phase_in, text_in}
-use Rattle.client_verify.specs.State.{Ready, State, declared, next_cert, next_structure, on, over as over_blocks, released, signed_over, signed_text}
+use Rattle.client_verify.specs.State.{Ready, State, declared, newest_key, next_cert, next_structure, on, over as over_blocks, released, signed_over, signed_text, signing_key}
 use Rattle.client_steps.specs.Steps.{Begins, Call, Client, Closed, Commits, HasBegun, HasCommitted, HasSigned, IsOpened, IsSound, Open, Opens, Owner, Parts, Signs}
 use Rattle.client_runs.specs.Runs.{Event}
 use Rattle.client_runs.specs.Released.{accepted_by, in_hand, released_by, tried_by, view_over, where_signed}
@@ -202,15 +202,15 @@ module _ (o : Owner) where
 
         pub begins : (text : Bytes) → HasBegun s changes laid (Ok text) new → HoldsAfter older (Open s) texts signed view (Begins changes laid (Ok text)) (Open new)
         begins text b =
-            let k = declares (low_owner o) (Unit {0}) h.story h.tried texts (released s) h.low 0 (next_cert s changes) (released new) text (low_begun s new h.own.always.0.some changes laid text b) in
+            let k = declares (low_owner o) (Unit {0}) h.story h.tried texts (released s) h.low (newest_key s) (next_cert s changes) (released new) text (low_begun s new h.own.always.0.some changes laid text b) in
             let is = b.declared.2 in
             record {
-              story = OfCert 0 (next_cert s changes) k.0 ∷ h.story;
+              story = OfCert (newest_key s) (next_cert s changes) k.0 ∷ h.story;
               tried = None;
               low =
-                  where_in_turn (low_owner o) ((s.number + 1 ≡ s.number + 1) × Unit {0}) (Unit {0}) (OfCert 0 (next_cert s changes) k.0 ∷ h.story) None (low_client (Open new)) (text ∷ texts)
+                  where_in_turn (low_owner o) ((s.number + 1 ≡ s.number + 1) × Unit {0}) (Unit {0}) (OfCert (newest_key s) (next_cert s changes) k.0 ∷ h.story) None (low_client (Open new)) (text ∷ texts)
                   (λ _. (refl, tt)) k.1;
-              tries = none_tries (OfCert 0 (next_cert s changes) k.0 ∷ h.story) (event (Begins changes laid (Ok text)) (Open new) ∷ older) view (view_idle b.idle);
+              tries = none_tries (OfCert (newest_key s) (next_cert s changes) k.0 ∷ h.story) (event (Begins changes laid (Ok text)) (Open new) ∷ older) view (view_idle b.idle);
               own = record {
                 pinned = ap (λ (n : State). n.pinned) is ∙ h.own.pinned;
                 no_view = λ _. view_idle b.idle;
@@ -222,7 +222,7 @@ module _ (o : Owner) where
 
         pub begin_fails : HasBegun s changes laid (Err error.Device) new → HoldsAfter older (Open s) texts signed view (Begins changes laid (Err error.Device)) (Open new)
         begin_fails b =
-            let k = declare_fails (low_owner o) (Unit {0}) h.story h.tried texts (released s) h.low 0 (next_cert s changes) (released new) error.Device (low_begin_failed s new h.own.always.0.some changes laid b) in
+            let k = declare_fails (low_owner o) (Unit {0}) h.story h.tried texts (released s) h.low (newest_key s) (next_cert s changes) (released new) error.Device (low_begin_failed s new h.own.always.0.some changes laid b) in
             let is = b.fails refl in
             record {
               story = h.story;
@@ -238,11 +238,11 @@ module _ (o : Owner) where
               viewed = h.viewed;
             }
           where
-            tried_cert : (some : Option Release) → IsTriedCert 0 (next_cert s changes) some → Tries h.story (event (Begins changes laid (Err error.Device)) (Open new) ∷ older) some view
+            tried_cert : (some : Option Release) → IsTriedCert (newest_key s) (next_cert s changes) some → Tries h.story (event (Begins changes laid (Err error.Device)) (Open new) ∷ older) some view
             tried_cert some (inl none) = subst (λ (t : Option Release). Tries h.story (event (Begins changes laid (Err error.Device)) (Open new) ∷ older) t view) (sym none) (none_tries h.story (event (Begins changes laid (Err error.Device)) (Open new) ∷ older) view (view_idle b.idle))
             tried_cert some (inr (q, one)) =
                 subst (λ (t : Option Release). Tries h.story (event (Begins changes laid (Err error.Device)) (Open new) ∷ older) t view) (sym one)
-                (subst (λ (v : Option View). Tries h.story (event (Begins changes laid (Err error.Device)) (Open new) ∷ older) (Some (OfCert 0 (next_cert s changes) q)) v) (sym (view_idle b.idle)) tt)
+                (subst (λ (v : Option View). Tries h.story (event (Begins changes laid (Err error.Device)) (Open new) ∷ older) (Some (OfCert (newest_key s) (next_cert s changes) q)) v) (sym (view_idle b.idle)) tt)
 
       -- ---- sign
 
@@ -276,14 +276,14 @@ module _ (o : Owner) where
 
         pub signs_ok : (text : Bytes) → HasSigned s (Ok text) new → HoldsAfter older (Open s) texts signed view (Signs (Ok text)) (Open new)
         signs_ok text b =
-            let done = if_ready s new y ready (λ r. (leaf : LeafNumber) × IsKept leaf (structure_record (signed_text s leaf r)) (under 0 s.devices) (under 0 new.devices) × (new ≡ over_blocks new.blocks (on new.devices (signed_over s leaf r)))) b.signed in
+            let done = if_ready s new y ready (λ r. (leaf : LeafNumber) × IsKept leaf (structure_record (signed_text s leaf r)) (under (signing_key s r) s.devices) (under (signing_key s r) new.devices) × (new ≡ over_blocks new.blocks (on new.devices (signed_over s leaf r)))) b.signed in
             let is = done.2 in
-            let k = signs (low_owner o) (Unit {0}) h.story h.tried texts (released s) h.low 0 (next_structure s y) (released new) text (low_signed s new y ready text h.own.always b) in
+            let k = signs (low_owner o) (Unit {0}) h.story h.tried texts (released s) h.low (signing_key s y) (next_structure s y) (released new) text (low_signed s new y ready text h.own.always b) in
             record {
-              story = OfStructure 0 (next_structure s y) k.0 ∷ h.story;
+              story = OfStructure (signing_key s y) (next_structure s y) k.0 ∷ h.story;
               tried = None;
-              low = where_in_turn (low_owner o) (Unit {0} × Unit {0}) (Unit {0}) (OfStructure 0 (next_structure s y) k.0 ∷ h.story) None (low_client (Open new)) (text ∷ texts) (λ _. (tt, tt)) k.1;
-              tries = none_tries (OfStructure 0 (next_structure s y) k.0 ∷ h.story) (event (Signs (Ok text)) (Open new) ∷ older) view (h.own.no_view up);
+              low = where_in_turn (low_owner o) (Unit {0} × Unit {0}) (Unit {0}) (OfStructure (signing_key s y) (next_structure s y) k.0 ∷ h.story) None (low_client (Open new)) (text ∷ texts) (λ _. (tt, tt)) k.1;
+              tries = none_tries (OfStructure (signing_key s y) (next_structure s y) k.0 ∷ h.story) (event (Signs (Ok text)) (Open new) ∷ older) view (h.own.no_view up);
               own = record {
                 pinned = ap (λ (n : State). n.pinned) is ∙ h.own.pinned;
                 no_view = λ _. h.own.no_view up;
@@ -295,7 +295,7 @@ module _ (o : Owner) where
 
         pub sign_fails_here : HasSigned s (Err error.Device) new → HoldsAfter older (Open s) texts signed view (Signs (Err error.Device)) (Open new)
         sign_fails_here b =
-            let k = sign_fails (low_owner o) (Unit {0}) h.story h.tried texts (released s) h.low 0 (next_structure s y) (released new) error.Device (low_sign_failed s new y ready h.own.always b) in
+            let k = sign_fails (low_owner o) (Unit {0}) h.story h.tried texts (released s) h.low (signing_key s y) (next_structure s y) (released new) error.Device (low_sign_failed s new y ready h.own.always b) in
             let is = b.fails refl in
             record {
               story = h.story;
@@ -314,7 +314,7 @@ module _ (o : Owner) where
             over : IsTriedOver h.story (event (Signs (Err error.Device)) (Open new) ∷ older) (view_over s y)
             over = over_later (event (Signs (Err error.Device)) (Open new)) h.story older (view_over s y) is_over
 
-            tried_structure : (some : Option Release) → IsTriedStructure 0 (next_structure s y) some → Tries h.story (event (Signs (Err error.Device)) (Open new) ∷ older) some (Some (view_over s y))
+            tried_structure : (some : Option Release) → IsTriedStructure (signing_key s y) (next_structure s y) some → Tries h.story (event (Signs (Err error.Device)) (Open new) ∷ older) some (Some (view_over s y))
             tried_structure some (inl none) = subst (λ (t : Option Release). Tries h.story (event (Signs (Err error.Device)) (Open new) ∷ older) t (Some (view_over s y))) (sym none) over
             tried_structure some (inr (q, one)) = subst (λ (t : Option Release). Tries h.story (event (Signs (Err error.Device)) (Open new) ∷ older) t (Some (view_over s y))) (sym one) (over, refl)
 

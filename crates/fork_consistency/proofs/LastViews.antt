@@ -23,7 +23,7 @@ use Rattle.client_verify.specs.declared.step.Step.TheVariants.{Need, Store, Brok
 use Rattle.client_verify.specs.declared.view.Looking.{Looking}
 use Rattle.reply_check.specs.FirstBroken.{reply_in, view_over}
 use Rattle.reply_check.specs.Good.{Good}
-use Rattle.client_verify.specs.State.{AcceptedView, Checked, Reading, Ready, State, Writing, committed, holding, on, over as over_blocks, signed_over, signed_structure, signed_text}
+use Rattle.client_verify.specs.State.{AcceptedView, Checked, Reading, Ready, State, Writing, committed, holding, on, over as over_blocks, signed_over, signed_structure, signed_text, signing_key}
 use Rattle.client_verify.specs.Judged.{AsksOrAccepts, GoesOn, Handed, Judged, Taken}
 use Rattle.client_verify.specs.Looked.{Given, Looked}
 use Rattle.agreement.specs.Runs.{View, user_of}
@@ -134,6 +134,7 @@ module _ (s new : State) where
       go (Err error.Memory) h = of_state s refl (h.err (λ d. cc d))
       go (Err error.NoLeaf) h = of_state s refl (h.err (λ d. cc d))
       go (Err error.NoNumber) h = of_state s refl (h.err (λ d. cc d))
+      go (Err error.NoKey) h = of_state s refl (h.err (λ d. cc d))
       go (Err error.Foreign) h = of_state s refl (h.err (λ d. cc d))
       go (Err error.Damaged) h = of_state s refl (h.err (λ d. cc d))
 
@@ -154,6 +155,7 @@ module _ (s new : State) where
   sign_fails error.Memory h = of_state s refl (h.err (λ d. cc d))
   sign_fails error.NoLeaf h = of_state s refl (h.err (λ d. cc d))
   sign_fails error.NoNumber h = of_state s refl (h.err (λ d. cc d))
+  sign_fails error.NoKey h = of_state s refl (h.err (λ d. cc d))
   sign_fails error.Foreign h = of_state s refl (h.err (λ d. cc d))
   sign_fails error.Damaged h = of_state s refl (h.err (λ d. cc d))
 
@@ -237,7 +239,7 @@ module _ (texts : List Bytes) (apart : NoneCollide texts texts) (key : Key) wher
   signs : (s new : State) (text : Bytes) (last : Option View) → HasSigned s (Ok text) new → KnowsClient texts apart key (Open s) → HasLastView (next (option_to_list (option_map (over s) s.accepted)) last) (Open new)
   signs s new text last h knows = go s.accepted h.ready h.signed knows.accepted
     where
-      go : (o : Option Ready) → IsSome o → IfSome o (λ r. (leaf : LeafNumber) × IsKept leaf (structure_record (signed_text s leaf r)) (under 0 s.devices) (under 0 new.devices) × (new ≡ over_blocks new.blocks (on new.devices (signed_over s leaf r)))) → IfSome o (IsReady texts apart key)
+      go : (o : Option Ready) → IsSome o → IfSome o (λ r. (leaf : LeafNumber) × IsKept leaf (structure_record (signed_text s leaf r)) (under (signing_key s r) s.devices) (under (signing_key s r) new.devices) × (new ≡ over_blocks new.blocks (on new.devices (signed_over s leaf r)))) → IfSome o (IsReady texts apart key)
           → HasLastView (next (option_to_list (option_map (over s) o)) last) (Open new)
       go None some h made = absurd (cc some)
       go (Some y) some h made = signed_view s new y h.0 h.2 made

@@ -111,6 +111,7 @@ module _ (o : Owner) where
     step (Open s) (Begins changes laid (Err error.Memory)) (Open new) h is sound = same_as older texts signed view s h new sound (event o (Begins changes laid (Err error.Memory)) (Open new)) (is.err (λ d. cc d))
     step (Open s) (Begins changes laid (Err error.NoLeaf)) (Open new) h is sound = same_as older texts signed view s h new sound (event o (Begins changes laid (Err error.NoLeaf)) (Open new)) (is.err (λ d. cc d))
     step (Open s) (Begins changes laid (Err error.NoNumber)) (Open new) h is sound = same_as older texts signed view s h new sound (event o (Begins changes laid (Err error.NoNumber)) (Open new)) (is.err (λ d. cc d))
+    step (Open s) (Begins changes laid (Err error.NoKey)) (Open new) h is sound = same_as older texts signed view s h new sound (event o (Begins changes laid (Err error.NoKey)) (Open new)) (is.err (λ d. cc d))
     step (Open s) (Begins changes laid (Err error.Foreign)) (Open new) h is sound = same_as older texts signed view s h new sound (event o (Begins changes laid (Err error.Foreign)) (Open new)) (is.err (λ d. cc d))
     step (Open s) (Begins changes laid (Err error.Damaged)) (Open new) h is sound = same_as older texts signed view s h new sound (event o (Begins changes laid (Err error.Damaged)) (Open new)) (is.err (λ d. cc d))
     step (Open s) (Hears text answer) (Open new) h is sound = hears_it older texts signed view s h new sound text answer is
@@ -122,6 +123,7 @@ module _ (o : Owner) where
     step (Open s) (Signs (Err error.Memory)) (Open new) h is sound = same_as older texts signed view s h new sound (event o (Signs (Err error.Memory)) (Open new)) (is.err (λ d. cc d))
     step (Open s) (Signs (Err error.NoLeaf)) (Open new) h is sound = same_as older texts signed view s h new sound (event o (Signs (Err error.NoLeaf)) (Open new)) (is.err (λ d. cc d))
     step (Open s) (Signs (Err error.NoNumber)) (Open new) h is sound = same_as older texts signed view s h new sound (event o (Signs (Err error.NoNumber)) (Open new)) (is.err (λ d. cc d))
+    step (Open s) (Signs (Err error.NoKey)) (Open new) h is sound = same_as older texts signed view s h new sound (event o (Signs (Err error.NoKey)) (Open new)) (is.err (λ d. cc d))
     step (Open s) (Signs (Err error.Foreign)) (Open new) h is sound = same_as older texts signed view s h new sound (event o (Signs (Err error.Foreign)) (Open new)) (is.err (λ d. cc d))
     step (Open s) (Signs (Err error.Damaged)) (Open new) h is sound = same_as older texts signed view s h new sound (event o (Signs (Err error.Damaged)) (Open new)) (is.err (λ d. cc d))
     step (Open s) (Commits status) (Open new) h is sound = commits o older texts signed view s h new sound status is

@@ -34,7 +34,7 @@ use Rattle.client_verify.specs.declared.step.Step.TheVariants.{Need, Store, Brok
 use Rattle.client_verify.specs.declared.view.Looking.{Looking}
 use Rattle.reply_check.specs.FirstBroken.{IsRead, reply_in, shown_of, view_over}
 use Rattle.reply_check.specs.Good.{Good, record_over, view_of}
-use Rattle.client_verify.specs.State.{AcceptedView, Checked, Reading, Ready, State, Writing, blocks_with, committed, known, holding, on, over as over_blocks, groups, signed_over, signed_text, with_records}
+use Rattle.client_verify.specs.State.{AcceptedView, Checked, Reading, Ready, State, Writing, blocks_with, committed, known, holding, on, over as over_blocks, groups, signed_over, signed_text, signing_key, with_records}
 use Rattle.client_verify.specs.Holding.{HoldsAfter, HoldsMeanwhile, LaysOut, LookHoldsAfter, is_under_way}
 use Rattle.client_verify.specs.Judged.{AsksOrAccepts, GoesOn, Handed, IsGood, Judged, Taken}
 use Rattle.client_verify.specs.Looked.{Given, Looked}
@@ -261,6 +261,7 @@ module _ (texts : List Bytes) (apart : NoneCollide texts texts) (key : Key) wher
         go (Err error.Memory) all h = same (h.err (λ d. cc d))
         go (Err error.NoLeaf) all h = same (h.err (λ d. cc d))
         go (Err error.NoNumber) all h = same (h.err (λ d. cc d))
+        go (Err error.NoKey) all h = same (h.err (λ d. cc d))
         go (Err error.Foreign) all h = same (h.err (λ d. cc d))
         go (Err error.Damaged) all h = same (h.err (λ d. cc d))
 
@@ -285,13 +286,14 @@ module _ (texts : List Bytes) (apart : NoneCollide texts texts) (key : Key) wher
     signs : (answer : Result Bytes ClientError) → HasSigned s answer new → Knows new
     signs (Ok text) h = go s.accepted h.ready h.signed
       where
-        go : (y : Option Ready) → IsSome y → IfSome y (λ r. (leaf : LeafNumber) × IsKept leaf (structure_record (signed_text s leaf r)) (under 0 s.devices) (under 0 new.devices) × (new ≡ over_blocks new.blocks (on new.devices (signed_over s leaf r)))) → Knows new
+        go : (y : Option Ready) → IsSome y → IfSome y (λ r. (leaf : LeafNumber) × IsKept leaf (structure_record (signed_text s leaf r)) (under (signing_key s r) s.devices) (under (signing_key s r) new.devices) × (new ≡ over_blocks new.blocks (on new.devices (signed_over s leaf r)))) → Knows new
         go None some h = absurd (cc some)
         go (Some y) some signed_so = subst (λ (n : State). Knows n) (sym signed_so.2) (record { pinned = k.pinned; among = among_part texts s.blocks new.blocks k.among h.gone.known; checked = tt; accepted = tt })
     signs (Err error.Device) h = subst (λ (n : State). Knows n) (sym (h.fails refl)) (record { pinned = k.pinned; among = k.among; checked = tt; accepted = tt })
     signs (Err error.Memory) h = same (h.err (λ d. cc d))
     signs (Err error.NoLeaf) h = same (h.err (λ d. cc d))
     signs (Err error.NoNumber) h = same (h.err (λ d. cc d))
+    signs (Err error.NoKey) h = same (h.err (λ d. cc d))
     signs (Err error.Foreign) h = same (h.err (λ d. cc d))
     signs (Err error.Damaged) h = same (h.err (λ d. cc d))
 

@@ -51,7 +51,7 @@ use Rattle.client_verify.specs.declared.view.Looking.{Looking}
 use Rattle.client_verify.specs.Holding.{HoldsAfter, HoldsMeanwhile, LaysOut, LookHoldsAfter, is_under_way}
 use Rattle.client_verify.specs.Judged.{AsksOrAccepts, GoesOn, Handed, Judged, Taken}
 use Rattle.client_verify.specs.Looked.{Given, Looked}
-use Rattle.client_verify.specs.State.{AcceptedView, Checked, Reading, Ready, State, Writing, asked_of, blocks_with, committed, holding, lists_under, on, over, signed_over, signed_text}
+use Rattle.client_verify.specs.State.{AcceptedView, Checked, Reading, Ready, State, Writing, asked_of, blocks_with, committed, holding, lists_under, on, over, signed_over, signed_text, signing_key}
 use Rattle.client_verify.proofs.GenesisLaws.{held_at_first}
 use Rattle.client_steps.specs.Steps.{Asks, Begins, Caches, Call, Client, Closed, Closes, Commits, Crashes, Gives, HasBegun, HasCached, HasGiven, HasHeard, HasLooked, HasSigned, HasTaken, Hears, IsStep, Looks, Open, Opens, Owner, Sees, Signs, Takes, principal_of}
 use Rattle.agreement.proofs.Formed.{cert_user}
@@ -354,6 +354,7 @@ module _ (put : List Bytes) (key : Key) (apart : NoneCollide (put ++ first_texts
         go (Err error.Memory) h = same (h.err (λ d. cc d))
         go (Err error.NoLeaf) h = same (h.err (λ d. cc d))
         go (Err error.NoNumber) h = same (h.err (λ d. cc d))
+        go (Err error.NoKey) h = same (h.err (λ d. cc d))
         go (Err error.Foreign) h = same (h.err (λ d. cc d))
         go (Err error.Damaged) h = same (h.err (λ d. cc d))
 
@@ -440,7 +441,7 @@ module _ (put : List Bytes) (key : Key) (apart : NoneCollide (put ++ first_texts
     signs : (answer : Result Bytes ClientError) → HasSigned s answer new → Serves new
     signs (Ok text) h = go s.accepted h.ready h.signed
       where
-        go : (y : Option Ready) → IsSome y → IfSome y (λ r. (leaf : LeafNumber) × IsKept leaf (structure_record (signed_text s leaf r)) (under 0 s.devices) (under 0 new.devices) × (new ≡ over new.blocks (on new.devices (signed_over s leaf r)))) → Serves new
+        go : (y : Option Ready) → IsSome y → IfSome y (λ r. (leaf : LeafNumber) × IsKept leaf (structure_record (signed_text s leaf r)) (under (signing_key s r) s.devices) (under (signing_key s r) new.devices) × (new ≡ over new.blocks (on new.devices (signed_over s leaf r)))) → Serves new
         go None some so = absurd (cc some)
         go (Some y) some so =
             serves_none s.blocks new h.gone.first (ap is_under_way so.2)
@@ -449,6 +450,7 @@ module _ (put : List Bytes) (key : Key) (apart : NoneCollide (put ++ first_texts
     signs (Err error.Memory) h = same (h.err (λ d. cc d))
     signs (Err error.NoLeaf) h = same (h.err (λ d. cc d))
     signs (Err error.NoNumber) h = same (h.err (λ d. cc d))
+    signs (Err error.NoKey) h = same (h.err (λ d. cc d))
     signs (Err error.Foreign) h = same (h.err (λ d. cc d))
     signs (Err error.Damaged) h = same (h.err (λ d. cc d))
 

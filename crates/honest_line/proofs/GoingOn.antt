@@ -10,7 +10,7 @@ use Rattle.client_releases.specs.declared.error.ClientError.{ClientError}
 use Rattle.client_verify.specs.declared.step.Step.TheVariants as step
 use Rattle.client_releases.specs.declared.phase.Phase.TheVariants as phase
 use Rattle.client_releases.specs.Releasing.{IsKept, structure_record, under}
-use Rattle.client_verify.specs.State.{Ready, State, on, over, signed_over, signed_text}
+use Rattle.client_verify.specs.State.{Ready, State, on, over, signed_over, signed_text, signing_key}
 use Rattle.client_verify.specs.Standing.{StandsAfter}
 use Rattle.client_verify.proofs.Standing.{block_stands, judged_stands}
 use Rattle.client_steps.specs.Steps.{Asks, Begins, Call, Client, Commits, HasBegun, HasHeard, HasSigned, HasTaken, Hears, IsSound, IsStep, Open, Owner, Signs, StepTaken, Takes}
@@ -37,7 +37,7 @@ begins s t changes laid text h =
 signs : (s t : State) (text : Bytes) → HasSigned s (Ok text) t → LeadsOn (Open s) (Signs (Ok text)) (Open t)
 signs s t text h = go s.accepted h.ready h.signed
   where
-    go : (o : Option Ready) → IsSome o → IfSome o (λ r. (leaf : LeafNumber) × IsKept leaf (structure_record (signed_text s leaf r)) (under 0 s.devices) (under 0 t.devices) × (t ≡ over t.blocks (on t.devices (signed_over s leaf r)))) → t.phase ≡ phase.Signed
+    go : (o : Option Ready) → IsSome o → IfSome o (λ r. (leaf : LeafNumber) × IsKept leaf (structure_record (signed_text s leaf r)) (under (signing_key s r) s.devices) (under (signing_key s r) t.devices) × (t ≡ over t.blocks (on t.devices (signed_over s leaf r)))) → t.phase ≡ phase.Signed
     go None some h = absurd (cc some)
     go (Some r) some h = ap (λ (n : State). n.phase) h.2
 

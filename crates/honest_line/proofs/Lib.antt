@@ -8,6 +8,7 @@ pub mod Genuine
 pub mod Naming
 pub mod Follows
 pub mod InHand
+pub mod OneKey
 pub mod OwnKeys
 pub mod Signing
 pub mod Stepping

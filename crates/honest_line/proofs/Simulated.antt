@@ -380,6 +380,7 @@ module _ (keys : Keys) (naming : Naming) (texts : List Bytes) (g : Grounds keys 
       begins changes laid (Err error.Memory) k b = inl (refl, refl, same (Begins changes laid (Err error.Memory)) k (b.err (λ d. cc d)))
       begins changes laid (Err error.NoLeaf) k b = inl (refl, refl, same (Begins changes laid (Err error.NoLeaf)) k (b.err (λ d. cc d)))
       begins changes laid (Err error.NoNumber) k b = inl (refl, refl, same (Begins changes laid (Err error.NoNumber)) k (b.err (λ d. cc d)))
+      begins changes laid (Err error.NoKey) k b = inl (refl, refl, same (Begins changes laid (Err error.NoKey)) k (b.err (λ d. cc d)))
       begins changes laid (Err error.Foreign) k b = inl (refl, refl, same (Begins changes laid (Err error.Foreign)) k (b.err (λ d. cc d)))
       begins changes laid (Err error.Damaged) k b = inl (refl, refl, same (Begins changes laid (Err error.Damaged)) k (b.err (λ d. cc d)))
 
@@ -403,6 +404,7 @@ module _ (keys : Keys) (naming : Naming) (texts : List Bytes) (g : Grounds keys 
       signs (Err error.Memory) k b = inl (refl, refl, same (Signs (Err error.Memory)) k (b.err (λ d. cc d)))
       signs (Err error.NoLeaf) k b = inl (refl, refl, same (Signs (Err error.NoLeaf)) k (b.err (λ d. cc d)))
       signs (Err error.NoNumber) k b = inl (refl, refl, same (Signs (Err error.NoNumber)) k (b.err (λ d. cc d)))
+      signs (Err error.NoKey) k b = inl (refl, refl, same (Signs (Err error.NoKey)) k (b.err (λ d. cc d)))
       signs (Err error.Foreign) k b = inl (refl, refl, same (Signs (Err error.Foreign)) k (b.err (λ d. cc d)))
       signs (Err error.Damaged) k b = inl (refl, refl, same (Signs (Err error.Damaged)) k (b.err (λ d. cc d)))
 

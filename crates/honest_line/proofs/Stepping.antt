@@ -14,7 +14,7 @@ use Rattle.client_releases.specs.declared.phase.Phase.{Phase}
 use Rattle.client_releases.specs.declared.phase.Phase.TheVariants as phase
 use Rattle.client_releases.specs.Told.{IsPhase, Released}
 use Rattle.client_releases.specs.Releasing.{IsKept, structure_record, under}
-use Rattle.client_verify.specs.State.{Ready, State, committed, next_cert, next_structure, on, over, released, signed_over, signed_text}
+use Rattle.client_verify.specs.State.{Ready, State, committed, next_cert, next_structure, on, over, released, signed_over, signed_text, signing_key}
 use Rattle.client_steps.specs.Steps.{Begins, Call, Client, Closed, HasBegun, HasSigned, IsHandedBack, IsLeft, IsOpened, IsRefused, IsSound, Open, Opens, Parts}
 use Rattle.agreement.specs.Runs.{View, user_of}
 use Rattle.agreement.proofs.Members.{In}
@@ -38,6 +38,7 @@ use Rattle.honest_history.specs.Served.{IsTableOf}
 use Rattle.honest_dialogues.specs.Dialogue.{Accepts, Declared, Declares, Idle, Ends, Hears as Heard_it, IsNextCert, IsReply, IsSealed, MayMove, Reopens, Sealed, Stage, WasAnswered, success}
 use Rattle.honest_dialogues.specs.Signing.{HasRecords}
 use Rattle.honest_line.proofs.Follows.{Follows, Goes, HoldsHeard, IsInPhase, IsMove, IsOfStory, IsTriedAt, MayDeclare, MaySeal, declared_at, failed_at, idle_at, in_phase_at, none_in_hand, o, signed_at, signed_cert, signed_structure}
+use Rattle.honest_line.proofs.OneKey.{declares_by_one, signs_by_one}
 use Rattle.honest_line.proofs.OwnKeys.{own_keys}
 use Rattle.honest_line.proofs.Signing.{CanSign, may_declare, may_seal, number_is}
 
@@ -267,7 +268,7 @@ module _ (keys : Keys) (naming : Naming) (u : User) (can : CanSign keys u) (hist
 
       pub begins : (answer : Bytes) → HasBegun s changes laid (Ok answer) new → HasOwn (Begins changes laid (Ok answer)) (Open new) → IsMove keys naming u history stage (Open new) (answer ∷ texts) view [] []
       begins answer b has_own =
-          let k = declares (o keys naming u) (Unit {0}) f.story f.tried texts (released s) f.low 0 next (released new) answer (low_begun s new f.own.always.0.some changes laid answer b) in
+          let k = declares (o keys naming u) (Unit {0}) f.story f.tried texts (released s) f.low 0 next (released new) answer (declares_by_one s new (keys u) f.own.always.0 f.low.own.opened f.low.own.secrets next (Ok answer) (low_begun s new f.own.always.0.some changes laid answer b)) in
           let q = k.0 in
           let is = b.declared.2 in
           let l = where_in_turn (o keys naming u) ((s.number + 1 ≡ s.number + 1) × Unit {0}) (Unit {0}) (OfCert 0 next q ∷ f.story) None (low_client (Open new)) (answer ∷ texts) (λ _. (refl, tt)) k.1 in
@@ -304,7 +305,7 @@ module _ (keys : Keys) (naming : Naming) (u : User) (can : CanSign keys u) (hist
 
       pub begin_fails : HasBegun s changes laid (Err error.Device) new → At (Open new) view stage
       begin_fails b =
-          let k = declare_fails (o keys naming u) (Unit {0}) f.story f.tried texts (released s) f.low 0 next (released new) error.Device (low_begin_failed s new f.own.always.0.some changes laid b) in
+          let k = declare_fails (o keys naming u) (Unit {0}) f.story f.tried texts (released s) f.low 0 next (released new) error.Device (declares_by_one s new (keys u) f.own.always.0 f.low.own.opened f.low.own.secrets next (Err error.Device) (low_begin_failed s new f.own.always.0.some changes laid b)) in
           let is = b.fails refl in
           let l = where_in_turn (o keys naming u) ((s.number + 1 ≡ s.number + 1) × Unit {0}) (Unit {0}) f.story k.0 (low_client (Open new)) texts (λ _. (refl, tt)) k.2 in
           record {
@@ -362,9 +363,9 @@ module _ (keys : Keys) (naming : Naming) (u : User) (can : CanSign keys u) (hist
 
       pub signs_ok : (answer : Bytes) → HasSigned s (Ok answer) new → Covers (option_to_list (in_hand (Open s))) → IsMove keys naming u history stage (Open new) (answer ∷ texts) view [] (option_to_list (in_hand (Open s)))
       signs_ok answer b covers =
-          let done = if_ready s new y ready (λ r. (leaf : LeafNumber) × IsKept leaf (structure_record (signed_text s leaf r)) (under 0 s.devices) (under 0 new.devices) × (new ≡ over new.blocks (on new.devices (signed_over s leaf r)))) b.signed in
+          let done = if_ready s new y ready (λ r. (leaf : LeafNumber) × IsKept leaf (structure_record (signed_text s leaf r)) (under (signing_key s r) s.devices) (under (signing_key s r) new.devices) × (new ≡ over new.blocks (on new.devices (signed_over s leaf r)))) b.signed in
           let is = done.2 in
-          let k = signs (o keys naming u) (Unit {0}) f.story f.tried texts (released s) f.low 0 z (released new) answer (low_signed s new y ready answer f.own.always b) in
+          let k = signs (o keys naming u) (Unit {0}) f.story f.tried texts (released s) f.low 0 z (released new) answer (signs_by_one s new (keys u) f.own.always.0 f.low.own.opened f.low.own.secrets y z (Ok answer) (low_signed s new y ready answer f.own.always b)) in
           let q = k.0 in
           let l = where_in_turn (o keys naming u) (Unit {0} × Unit {0}) (Unit {0}) (OfStructure 0 z q ∷ f.story) None (low_client (Open new)) (answer ∷ texts) (λ _. (tt, tt)) k.1 in
           let own = l.own.stands (λ down. let two : phase.Signed ≡ phase.Failed = sym (ap (λ (n : State). n.phase) is) ∙ down in cc two) in
@@ -393,7 +394,7 @@ module _ (keys : Keys) (naming : Naming) (u : User) (can : CanSign keys u) (hist
 
       pub sign_fails_here : HasSigned s (Err error.Device) new → At (Open new) (in_hand (Open s)) stage
       sign_fails_here b =
-          let k = sign_fails (o keys naming u) (Unit {0}) f.story f.tried texts (released s) f.low 0 z (released new) error.Device (low_sign_failed s new y ready f.own.always b) in
+          let k = sign_fails (o keys naming u) (Unit {0}) f.story f.tried texts (released s) f.low 0 z (released new) error.Device (signs_by_one s new (keys u) f.own.always.0 f.low.own.opened f.low.own.secrets y z (Err error.Device) (low_sign_failed s new y ready f.own.always b)) in
           let is = b.fails refl in
           let l = where_in_turn (o keys naming u) (Unit {0} × Unit {0}) (Unit {0}) f.story k.0 (low_client (Open new)) texts (λ _. (tt, tt)) k.2 in
           record {

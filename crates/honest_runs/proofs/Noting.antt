@@ -16,7 +16,7 @@ use Rattle.reply_check.specs.Good.{Good}
 use Rattle.client_verify.specs.declared.look.Look.TheVariants as look
 use Rattle.client_verify.specs.declared.step.Step.TheVariants as step
 use Rattle.client_verify.specs.declared.view.Looking.{Looking}
-use Rattle.client_verify.specs.State.{AcceptedView, Checked, Reading, State, Writing, asked_of, holding, on, over, signed_over, signed_text}
+use Rattle.client_verify.specs.State.{AcceptedView, Checked, Reading, State, Writing, asked_of, holding, on, over, signed_over, signed_text, signing_key}
 use Rattle.client_verify.specs.Judged.{AsksOrAccepts, GoesOn, Handed, Judged, Taken}
 use Rattle.client_verify.specs.Looked.{Given, Looked}
 use Rattle.client_steps.specs.Steps.{Asks, Begins, Caches, Call, Client, Closed, Closes, Commits, Crashes, FromOpen, Gives, HasBegun, HasCommitted, HasGiven, HasHeard, HasLooked, HasSigned, HasTaken, Hears, IsOpened, IsStep, Looks, Open, Opens, Owner, Parts, Sees, Signs, Takes}
@@ -58,6 +58,7 @@ module _ (w : Wanted) where
     unless_device error.Memory failed else_same = same (else_same (λ e. cc e))
     unless_device error.NoLeaf failed else_same = same (else_same (λ e. cc e))
     unless_device error.NoNumber failed else_same = same (else_same (λ e. cc e))
+    unless_device error.NoKey failed else_same = same (else_same (λ e. cc e))
     unless_device error.Foreign failed else_same = same (else_same (λ e. cc e))
     unless_device error.Damaged failed else_same = same (else_same (λ e. cc e))
 
@@ -69,7 +70,7 @@ module _ (w : Wanted) where
     signs : (answer : Result Bytes ClientError) → HasSigned s answer new → IsNoted (Open new) w
     signs (Ok text) b =
         with_ready s (IsNoted (Open new) w) b.ready
-        (λ y is. let done = if_ready s new y is (λ r. (leaf : LeafNumber) × IsKept leaf (structure_record (signed_text s leaf r)) (under 0 s.devices) (under 0 new.devices) × (new ≡ over new.blocks (on new.devices (signed_over s leaf r)))) b.signed in
+        (λ y is. let done = if_ready s new y is (λ r. (leaf : LeafNumber) × IsKept leaf (structure_record (signed_text s leaf r)) (under (signing_key s r) s.devices) (under (signing_key s r) new.devices) × (new ≡ over new.blocks (on new.devices (signed_over s leaf r)))) b.signed in
         noted_by new None (on new.devices (signed_over s done.0 y)).view (ap (λ (n : State). n.checked) done.2) (ap (λ (n : State). n.view) done.2) tt tt)
     signs (Err e) b =
         unless_device e (λ is. let left = b.fails (ap (λ (x : ClientError). Err x) is) in unasked (ap (λ (n : State). n.checked) left) (ap (λ (n : State). n.view) left)) b.err

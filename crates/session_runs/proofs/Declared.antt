@@ -24,7 +24,7 @@ use Rattle.agreement.proofs.Formed.{cert_fits}
 use Rattle.agreement.proofs.Members.{in-right}
 use Rattle.agreement.proofs.Tests.{first_holds}
 use Rattle.client_releases.specs.Told.{Released, secret_at}
-use Rattle.client_verify.specs.State.{IsOfDeclared, Ready, State, known, next_cert, released}
+use Rattle.client_verify.specs.State.{IsOfDeclared, Ready, State, known, newest_key, next_cert, released}
 use Rattle.client_steps.specs.Steps.{Client, Closed, HasBegun, Open, Owner}
 use Rattle.client_runs.specs.Released.{in_hand, view_over}
 use Rattle.client_runs.specs.Runs.{Event}
@@ -110,7 +110,7 @@ still_has (OfChanges changes) s new same has = subst (λ (r : Released). IsCertO
 pub begins : (s new : State) (changes : List (Change Digest)) (laid : List Bytes) (text : Bytes) → HasBegun s changes laid (Ok text) new → HasDeclared (OfChanges changes) new
 begins s new changes laid text b = record {
   value = next_cert s changes;
-  signature = signature_of (secret_at 0 (released s)) b.declared.0 (cert.spell (next_cert s changes));
+  signature = signature_of (secret_at (newest_key s) (released s)) b.declared.0 (cert.spell (next_cert s changes));
   fits = b.fits;
   changes_are = refl;
   spelled = ap (λ (n : State). n.text) b.declared.2;

@@ -11,7 +11,7 @@ use Rattle.client_releases.specs.declared.error.ClientError.{ClientError}
 use Rattle.client_releases.specs.Releasing.{IsKept, structure_record, under}
 use Rattle.client_verify.specs.declared.look.Look.TheVariants as look
 use Rattle.client_verify.specs.declared.view.Looking.{Looking}
-use Rattle.client_verify.specs.State.{AcceptedView, Ready, State, on, over, signed_over, signed_structure, signed_text}
+use Rattle.client_verify.specs.State.{AcceptedView, Ready, State, on, over, signed_over, signed_structure, signed_text, signing_key}
 use Rattle.agreement.specs.Runs.{View}
 use Rattle.agreement.proofs.Members.{In, in-left, in-right, in_contains}
 use Rattle.client_runs.specs.Released.{in_hand, view_over}
@@ -107,7 +107,7 @@ module _ (reads : Reading) (key : Key) (accepted : List View) (u : User) (texts 
   has_view : (s new : State) (text : Bytes) → HasSigned s (Ok text) new → IsSome new.view
   has_view s new text h = go s.accepted h.ready h.signed
     where
-      go : (o : Option Ready) → IsSome o → IfSome o (λ r. (leaf : LeafNumber) × IsKept leaf (structure_record (signed_text s leaf r)) (under 0 s.devices) (under 0 new.devices) × (new ≡ over new.blocks (on new.devices (signed_over s leaf r)))) → IsSome new.view
+      go : (o : Option Ready) → IsSome o → IfSome o (λ r. (leaf : LeafNumber) × IsKept leaf (structure_record (signed_text s leaf r)) (under (signing_key s r) s.devices) (under (signing_key s r) new.devices) × (new ≡ over new.blocks (on new.devices (signed_over s leaf r)))) → IsSome new.view
       go None some is = absurd (cc some)
       go (Some r) some is = subst IsSome (sym (ap (λ (n : State). n.view) is.2)) refl
 
@@ -120,7 +120,7 @@ module _ (reads : Reading) (key : Key) (accepted : List View) (u : User) (texts 
           let here : x ≡ view_over s r = cc same in
           (signed_structure s leaf r, sym (ap (λ (v : View). v.signed) here), h.text ∙ ap (λ (n : State). n.text) is)
 
-      go : (o : Option Ready) → IsSome o → IfSome o (λ r. (leaf : LeafNumber) × IsKept leaf (structure_record (signed_text s leaf r)) (under 0 s.devices) (under 0 new.devices) × (new ≡ over new.blocks (on new.devices (signed_over s leaf r))))
+      go : (o : Option Ready) → IsSome o → IfSome o (λ r. (leaf : LeafNumber) × IsKept leaf (structure_record (signed_text s leaf r)) (under (signing_key s r) s.devices) (under (signing_key s r) new.devices) × (new ≡ over new.blocks (on new.devices (signed_over s leaf r))))
           → (IsSome (option_map (view_over s) o) → next ≡ option_map (view_over s) o) → IsTextOf text x
       go None some is hand = absurd (cc some)
       go (Some r) some is hand = of_ready r is.0 is.2 (sym at ∙ hand refl)

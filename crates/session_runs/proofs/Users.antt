@@ -8,7 +8,7 @@ use Rattle.leaf_ledger.specs.Ledger.{LeafNumber}
 use Rattle.client_releases.specs.declared.error.ClientError.{ClientError}
 use Rattle.client_releases.specs.declared.error.ClientError.TheVariants as error
 use Rattle.client_releases.specs.Releasing.{IsKept, structure_record, under}
-use Rattle.client_verify.specs.State.{State, on, over, released, signed_over, signed_text}
+use Rattle.client_verify.specs.State.{State, on, over, released, signed_over, signed_text, signing_key}
 use Rattle.client_steps.specs.Steps.{AreSteps, Begins, Caches, Call, Client, Closed, Closes, Commits, Crashes, FromOpen, Gives, HasCommitted, HasSigned, Hears, IsStep, Looks, Open, Opens, Owner, Signs, StepTaken, Takes}
 use Rattle.client_runs.proofs.Lowering.{if_ready, with_ready}
 use Rattle.client_runs.proofs.Quiet as quiet
@@ -29,13 +29,14 @@ module _ (s new : State) where
   unless_device error.Memory failed else_same = stays (else_same (λ e. cc e))
   unless_device error.NoLeaf failed else_same = stays (else_same (λ e. cc e))
   unless_device error.NoNumber failed else_same = stays (else_same (λ e. cc e))
+  unless_device error.NoKey failed else_same = stays (else_same (λ e. cc e))
   unless_device error.Foreign failed else_same = stays (else_same (λ e. cc e))
   unless_device error.Damaged failed else_same = stays (else_same (λ e. cc e))
 
   signs : (answer : Result Bytes ClientError) → HasSigned s answer new → new.user ≡ s.user
   signs (Ok text) b =
       with_ready s (new.user ≡ s.user) b.ready
-      (λ y is. let done = if_ready s new y is (λ r. (leaf : LeafNumber) × IsKept leaf (structure_record (signed_text s leaf r)) (under 0 s.devices) (under 0 new.devices) × (new ≡ over new.blocks (on new.devices (signed_over s leaf r)))) b.signed in
+      (λ y is. let done = if_ready s new y is (λ r. (leaf : LeafNumber) × IsKept leaf (structure_record (signed_text s leaf r)) (under (signing_key s r) s.devices) (under (signing_key s r) new.devices) × (new ≡ over new.blocks (on new.devices (signed_over s leaf r)))) b.signed in
       ap (λ (n : State). n.user) done.2)
   signs (Err e) b = unless_device e (λ is. ap (λ (n : State). n.user) (b.fails (told_error e error.Device is))) b.err
 

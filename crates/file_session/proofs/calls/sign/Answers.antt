@@ -13,7 +13,7 @@ returns-clause-leads g c =
     let after = c.type_invariant-2.ensures in
     let s = c.args.client.now in
     leads _ (Signs (on_ok vec_items c.sign-text.result) (lost_of c.sign-text.new.self)) _
-    (signed s c.sign-text.new.self c.sign-text.result c.requires e.signed e.gone e.text e.fits e.any_moment e.tried e.no_leaf e.rose e.others e.fails e.fits_device e.only e.err)
+    (signed s c.sign-text.new.self c.sign-text.result c.requires e.signed e.gone e.text e.fits e.any_moment e.tried e.no_key e.no_leaf e.own e.rose e.others e.fails e.fits_device e.only e.err)
     (after.released, after.replies) refl tt
 
 pub returns-clause-unfinished : goal.returns-clause-unfinished
