@@ -24,6 +24,8 @@ pub enum Refusal {
     NoNumber,
     /// The key has no leaf left to sign with.
     NoLeaf,
+    /// None of the user's keys that are there is the one that the table of principals has for the signature.
+    NoKey,
     /// The content has more bytes than a file may have.
     TooLarge,
     /// The ledger or the journal can't be read or written.
@@ -49,6 +51,7 @@ impl Refusal {
             Refusal::NotEmpty => "not empty",
             Refusal::NoNumber => "no number",
             Refusal::NoLeaf => "no leaf",
+            Refusal::NoKey => "no key",
             Refusal::TooLarge => "too large",
             Refusal::Device => "device",
             Refusal::Foreign => "foreign",

@@ -108,6 +108,7 @@ refused_by error.Device = refusal.Device
 refused_by error.NoNumber = refusal.NoNumber
 refused_by error.Foreign = refusal.Foreign
 refused_by error.Damaged = refusal.Damaged
+refused_by error.NoKey = refusal.NoKey
 
 -- of what stopped a session
 abbrev pub stopped_by : Stop → Answer

@@ -42,6 +42,7 @@ pub fn refusal_of(error: ClientError) -> Refusal
         ClientError::NoNumber => Refusal::NoNumber,
         ClientError::Foreign => Refusal::Foreign,
         ClientError::Damaged => Refusal::Damaged,
+        ClientError::NoKey => Refusal::NoKey,
     }
 }
 

@@ -26,6 +26,7 @@ fn stopped<A: Allocator>(who: Who, error: ClientError) -> Result<Outcome<A>, Mem
         ClientError::Device => Ok(Outcome::Device(who)),
         ClientError::Foreign => Ok(Outcome::Foreign(who)),
         ClientError::Damaged => Ok(Outcome::Damaged(who)),
+        ClientError::NoKey => Ok(Outcome::NoKey(who)),
     }
 }
 

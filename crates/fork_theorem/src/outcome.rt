@@ -29,6 +29,8 @@ pub(crate) enum Outcome<A: Allocator> {
     NoLeaf(Who),
     /// The user has no number left.
     NoNumber(Who),
+    /// The user's client doesn't have the key that the table names.
+    NoKey(Who),
     /// A device of the user's failed.
     Device(Who),
     /// The user's ledger is another key's.
@@ -124,6 +126,7 @@ impl<A: Allocator> Outcome<A> {
             Outcome::Committed(who) => write_words(who, "committed", writer),
             Outcome::NoLeaf(who) => write_words(who, "no leaf", writer),
             Outcome::NoNumber(who) => write_words(who, "no number", writer),
+            Outcome::NoKey(who) => write_words(who, "no key", writer),
             Outcome::Device(who) => write_words(who, "device", writer),
             Outcome::Foreign(who) => write_words(who, "foreign", writer),
             Outcome::Damaged(who) => write_words(who, "damaged", writer),

@@ -214,6 +214,10 @@ fn reason_of_folder<'a>(folder: &'a str, refusal: Refusal) -> Reason<'a> {
             name: folder,
             words: "its key has signed all that it can, 1024 texts, two an operation: who goes on needs a new folder",
         },
+        Refusal::NoKey => Reason::Of {
+            name: folder,
+            words: "the key by which user 0 lists this user isn't here: is a seed of the folder missing?",
+        },
         _ => Reason::Of {
             name: folder,
             words: "its ledger or journal can't be read, written or synced: is the disk full or failing?",
@@ -250,9 +254,10 @@ fn reason_of_refusal<'a>(
         ),
         Refusal::Cut => (line.server, words_of_reach(reach)),
         Refusal::Memory => return reason_of_memory(),
-        Refusal::NoLeaf | Refusal::Device | Refusal::Foreign | Refusal::Damaged => {
-            return reason_of_folder(line.dir, refusal);
-        }
+        Refusal::NoLeaf | Refusal::NoKey | Refusal::Device | Refusal::Foreign | Refusal::Damaged =>
+            {
+                return reason_of_folder(line.dir, refusal);
+            }
     };
     Reason::Of { name, words }
 }

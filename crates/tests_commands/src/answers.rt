@@ -76,12 +76,13 @@ fn is_line(rt: &impl Abort, answer: Answer<Global>, line: (&str, u8), alloc: Glo
     is_printed(rt, answer, (&text, line.1), alloc)
 }
 
-static REFUSALS: [Refusal; 11] = [
+static REFUSALS: [Refusal; 12] = [
     Refusal::NoPath,
     Refusal::There,
     Refusal::NotEmpty,
     Refusal::NoNumber,
     Refusal::NoLeaf,
+    Refusal::NoKey,
     Refusal::TooLarge,
     Refusal::Device,
     Refusal::Foreign,
@@ -97,6 +98,7 @@ there
 not empty
 no number
 no leaf
+no key
 too large
 device
 foreign

@@ -149,6 +149,7 @@ fn error_text(rt: &impl Aided, call: u8, error: &ClientError) -> Vec<u8> {
         ClientError::NoNumber => b'n',
         ClientError::Foreign => b'f',
         ClientError::Damaged => b'g',
+        ClientError::NoKey => b'k',
     };
     joined(rt, &[&[b'e', call, letter]])
 }
