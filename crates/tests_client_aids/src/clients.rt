@@ -19,7 +19,7 @@ use wire::Status;
 pub type MemoryClient = Client<MemoryDevice<Global>, MemoryDevice<Global>, Global>;
 
 /// What it is opened over, and hands back.
-type ClientParts = Parts<MemoryDevice<Global>, MemoryDevice<Global>, Global>;
+pub type ClientParts = Parts<MemoryDevice<Global>, MemoryDevice<Global>, Global>;
 
 /// What is kept of a client that handed this back.
 pub(crate) fn kept_of(rt: &impl Aided, parts: ClientParts) -> Kept {
@@ -51,6 +51,23 @@ pub fn opened(
     match Client::open(rt.alloc(), user, keys, pinned, journal) {
         Ok(client) => Ok(client),
         Err((error, parts)) => Err((error, kept_of(rt, parts))),
+    }
+}
+
+/// The client of a user over keys with their ledgers, and a journal.
+pub fn open_parts(
+    rt: &impl Aided,
+    user: User,
+    pinned: PublicKey,
+    parts: ClientParts,
+) -> MemoryClient {
+    let Parts { keys, journal } = parts;
+    if keys.is_empty() {
+        rt.fail("no key");
+    }
+    match Client::open(rt.alloc(), user, keys, pinned, journal) {
+        Ok(client) => client,
+        Err((error, _)) => rt.fail(error),
     }
 }
 

@@ -45,6 +45,8 @@ mod restarts;
 #[cfg(test)]
 mod script;
 #[cfg(test)]
+mod several_keys;
+#[cfg(test)]
 mod several_users;
 #[cfg(test)]
 mod stolen_keys;

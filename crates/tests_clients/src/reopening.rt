@@ -1,6 +1,6 @@
 //! How a script closes a client, or crashes it, and opens it again; and what it tells of itself then.
 
-use crate::words::{ByHand, letter_of, number, put_text, text_of};
+use crate::words::{ByHand, byte, letter_of, number, put_text, text_of};
 use client_verify::{ClientError, Phase};
 use layout::{Text, User, let_go, put_in};
 use lms_sign::PrivateKey;
@@ -8,7 +8,7 @@ use std::alloc::Global;
 use tests_aids::Host;
 use tests_aids::texts::{joined, key_of};
 use tests_client_aids::clients::{
-    Kept, MemoryClient, device_of, first_key, only_structure, open_over, opened,
+    Kept, MemoryClient, device_of, first_key, only_structure, open_over, open_parts, opened,
 };
 use tests_client_aids::crashes::{Left, after_crash, closed, declared, structure};
 
@@ -19,6 +19,7 @@ pub(crate) fn error_name(rt: &impl Host, error: ClientError) -> Vec<u8> {
         ClientError::Device => b"Device".as_slice(),
         ClientError::Foreign => b"Foreign".as_slice(),
         ClientError::Damaged => b"Damaged".as_slice(),
+        ClientError::NoKey => b"NoKey".as_slice(),
         _ => panic!(rt; "another error"),
     };
     joined(rt, &[name])
@@ -129,6 +130,26 @@ pub(crate) fn restart(
     put_in(slot, Some(client));
     put_text(rt, &mut by_hand.texts, b'Y', size);
     told
+}
+
+/// A client is closed, and opened again with one key more, which others have as this user's, and a ledger that holds
+/// nothing; where none is named, without its newest key.
+pub(crate) fn open_with_keys(
+    rt: &impl Host,
+    slot: &mut Option<MemoryClient>,
+    user: u8,
+    key: &[&[u8]],
+) {
+    let mut parts = slot.take().expect(rt, "a client").close();
+    match key {
+        [key] => {
+            let own = (key_of(rt, byte(key)), device_of(rt, b""));
+            parts.keys.push(own).expect(rt, "memory");
+        }
+        _ => let_go(parts.keys.pop()),
+    }
+    let user = User::new(user).expect(rt, "a user");
+    put_in(slot, Some(open_parts(rt, user, first_key(rt), parts)));
 }
 
 /// In which phase a client is, and the number of its operation: the text of a letter is what it has declared or signed.

@@ -17,14 +17,15 @@
 //! What clients do:
 //!
 //! - `plan make OWNER NUMBER FILE`, `put`, `remove OWNER NUMBER`, `mkdir`, `link OWNER NUMBER NAME TARGET`, `unlink
-//!   OWNER NUMBER NAME`, `list USER KEY`, `member GROUP USER` and `drop GROUP USER` plan changes. `declare USER X`:
-//!   text X is the certificate of the user's next operation, of these changes.
+//!   OWNER NUMBER NAME`, `list USER KEY`, `set KEY USER`, `member GROUP USER` and `drop GROUP USER` plan changes.
+//!   `declare USER X`: text X is the certificate of the user's next operation, of these changes.
 //! - `hear USER X`: a reply is judged, with the stored blocks. `ask USER X` hands in the reply alone, and `give USER X`
 //!   then a block; `give USER -` none.
 //! - `issue USER X`: text X is the structure that the client signs. `over USER`: it was committed.
 //! - `now USER X` tells in which phase the client is, and its number; text X is what it has declared or signed. `query
 //!   USER X` tells whether it has a view, and its lost changes; text X is the view's only structure.
 //! - `restart USER closed`: it is closed, and opened again. Other words say what is left of it, and what changes then.
+//!   `restart USER gains KEY`: it has this key more, with an empty ledger; `restart USER loses`: its newest key is gone.
 //! - `look USER OWNER NUMBER`, `what USER OWNER NUMBER`, `vacant USER OWNER FIRST LAST`: a look with the stored blocks,
 //!   at what stands there, at its kind, and for the least i-number at which nothing stands.
 //!
@@ -36,7 +37,7 @@
 //! `yield 0` tells how many events the first one has made.
 
 use crate::acts::{Stage, client_acts};
-use crate::reopening::restart;
+use crate::reopening::{open_with_keys, restart};
 use crate::words::{
     ByHand, byte, key_in, letter_of, makes, nothing_by_hand, put_text, short, text_at, text_of,
     words_of,
@@ -141,6 +142,7 @@ fn table_change(rt: &impl Host, by_hand: &ByHand, task: &[u8], words: &[&[u8]]) 
     let user = found(rt, User::new(byte(user)), "a user");
     let change = match task {
         b"list" => TableChange::AddUser(user, public_key(rt, by_hand, second)),
+        b"set" => TableChange::SetKey(user, public_key(rt, by_hand, first)),
         b"member" => TableChange::AddMember(group(rt, first), user),
         _ => TableChange::DropMember(group(rt, first), user),
     };
@@ -158,7 +160,7 @@ fn plan(rt: &impl Host, planned: &mut Planned, by_hand: &ByHand, words: &[&[u8]]
         panic!(rt; "no change");
     };
     let change = match (*task, rest) {
-        (b"list" | b"member" | b"drop", _) => table_change(rt, by_hand, task, rest),
+        (b"list" | b"set" | b"member" | b"drop", _) => table_change(rt, by_hand, task, rest),
         (_, [owner, at, more @ ..]) => {
             let at = (byte(owner), short(at));
             plan_at(rt, planned, by_hand, (task, at), more)
@@ -245,7 +247,11 @@ fn actor_acts(
         b'y' => return events(rt, servers),
         b'r' => {
             let slot = slot_of(rt, users, user);
-            return restart(rt, slot, &mut stage.by_hand, user, rest);
+            if let [b"gains" | b"loses", key @ ..] = rest {
+                open_with_keys(rt, slot, user, key);
+            } else {
+                return restart(rt, slot, &mut stage.by_hand, user, rest);
+            }
         }
         _ => {
             let client = client_in(rt, users, user);
