@@ -27,8 +27,10 @@ pub fn replay_call<A: Allocator + Copy>(
         (order.new ≡ record order.old { history = call_of kind text.now ∷ order.old.history }) }
     // It goes to the log again.
     ensures logged { OnOk result (logged order.old (call_of kind text.now) ≡ call_of kind text.now ∷ []) }
-    // None of a log does otherwise (`log_replays`).
+    // None of a log does otherwise (`log_replays`). It stands among the calls that the order answered.
     ensures foreign { IsErrOf result ReplayError.Foreign → logged order.old (call_of kind text.now) ≡ [] }
+    ensures refused { IsErrOf result ReplayError.Foreign
+        → order.new ≡ record order.old { history = call_of kind text.now ∷ order.old.history } }
     ensures memory { IsErrOf result ReplayError.Memory → order.new ≡ order.old }
 {
     let mut told = Told::new(alloc);
