@@ -199,13 +199,14 @@ fn fail(rt: &impl Host, parts: &mut AllParts, call: u64) {
 }
 
 /// The declared certificate is signed again while a call fails. Then the client is opened, after a crash or without
-/// one, and a third time after a crash: it tells the same. What it signs then has another leaf. Tells whether the second
-/// text was told, and hands the parts back.
+/// one, and a third time after a crash: it tells the same. What it signs then has this leaf, or one after it. Tells
+/// whether the second text was told, and hands the parts back.
 fn signs_once(
     rt: &impl Host,
     parts: AllParts,
     first: &[u8],
     outcome: Option<usize>,
+    least: &[u8],
 ) -> (bool, AllParts) {
     let releases = opened(rt, left(rt, parts, outcome));
     let second = Vec::from_slice(rt.alloc(), releases.text()).expect(rt, "memory");
@@ -224,7 +225,17 @@ fn signs_once(
         !is_new || before.1.as_slice() < after.1.as_slice(),
         "a leaf twice"
     );
+    assert!(rt; after.1.as_slice() >= least, "a leaf that was marked");
     (is_new, releases.close())
+}
+
+/// The leaf that is free for good: the first, and once both calls of the ledger went well the second.
+fn least_free(call: usize) -> &'static [u8] {
+    if call < 2 {
+        &[0, 0, 0, 0]
+    } else {
+        &[0, 0, 0, 1]
+    }
 }
 
 /// In how many ways the client is opened after each call failed, and after none: after each crash, and after none. In so
@@ -261,7 +272,8 @@ fn crashes_leave_one_of_two_texts(rt: HostRuntime) {
                 "call {call}"
             );
             let outcome = (way.saturating_add(1) < *count).then_some(way);
-            let (is_new, parts) = signs_once(&rt, parts, &first, outcome);
+            let least = least_free(call);
+            let (is_new, parts) = signs_once(&rt, parts, &first, outcome, least);
             told = told.saturating_add(usize::from(is_new));
             cases = cases.saturating_add(1);
             kept = parts;

@@ -90,17 +90,23 @@ fn user_stops(rt: &impl Host, failing: Failing) -> (u64, usize) {
     sweep(&(rt, Here), &user, failing)
 }
 
-/// The first opening makes five calls, the other four make four each, and each of two leaves takes two.
+/// The first opening makes five calls, the other four make four each, and each of two leaves takes two. After a call
+/// that stops there is no crash, or one: so there are two cases where nothing waits for a sync, 7 where an extent does,
+/// and 37 where two do.
 #[test]
 fn each_call_of_the_ledger_stops(rt: HostRuntime) {
     let found = user_stops(&rt, Failing::Ledger);
-    assert_eq!(rt; found, (5 + 4 * 4 + 2 * 2, 145));
+    let cases = (2 + 2 + 7 + 37 + 37) + 4 * 4 * 2 + 2 * (7 + 7);
+    assert_eq!(rt; cases, 145);
+    assert_eq!(rt; found, (5 + 4 * 4 + 2 * 2, cases));
 }
 
 /// The first three openings, over a journal without records, make four calls each, the next ones six and eight, and
-/// each of two records takes six.
+/// each of two records takes six, after which up to three extents wait: 217 cases.
 #[test]
 fn each_call_of_the_journal_stops(rt: HostRuntime) {
     let found = user_stops(&rt, Failing::Journal);
-    assert_eq!(rt; found, (3 * 4 + 6 + 8 + 2 * 6, 1066));
+    let cases = 3 * (2 + 2 + 7 + 7) + 2 * (7 + 37 + 217 + 217 + 7 + 7) + 2 * (6 + 8);
+    assert_eq!(rt; cases, 1066);
+    assert_eq!(rt; found, (3 * 4 + 6 + 8 + 2 * 6, cases));
 }
