@@ -12,6 +12,8 @@ mod by_words;
 #[cfg(test)]
 mod costs;
 #[cfg(test)]
+mod cuts;
+#[cfg(test)]
 mod files;
 #[cfg(test)]
 mod here;

@@ -25,6 +25,10 @@ pub(crate) enum Trouble {
     Lost(usize),
     /// After so many exchanges each one fails, and its request is carried out.
     CarriedOut(usize),
+    /// The exchange that comes after so many fails, and its request is lost.
+    LostAt(usize),
+    /// The exchange that comes after so many fails, and its request is carried out.
+    CarriedOutAt(usize),
 }
 
 /// The one order of a server, its log and its blocks.
@@ -104,7 +108,7 @@ impl Trouble {
     fn loses(self, sent: usize) -> bool {
         match self {
             Trouble::Lost(most) => sent >= most,
-            Trouble::NoMemory(at) => sent == at,
+            Trouble::NoMemory(at) | Trouble::LostAt(at) => sent == at,
             _ => false,
         }
     }
@@ -113,6 +117,7 @@ impl Trouble {
     fn cuts(self, sent: usize) -> bool {
         match self {
             Trouble::Lost(most) | Trouble::CarriedOut(most) => sent >= most,
+            Trouble::LostAt(at) | Trouble::CarriedOutAt(at) => sent == at,
             _ => false,
         }
     }

@@ -78,7 +78,7 @@ fn goes_on(
 const EXCHANGES: usize = 15;
 
 /// User 0 did three operations, and its root directory has a file.
-const SETTLED: &str = "\
+pub(crate) const SETTLED: &str = "\
 0 put /f FILE < text -> 0 done|
 0 ls / -> 0 f 0:3|
 ";

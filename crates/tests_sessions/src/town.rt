@@ -235,6 +235,14 @@ impl Town {
         }
     }
 
+    /// A process of user 0 carries out a command over the server in memory: what it ends with.
+    pub(crate) fn run_one(&mut self, rt: &impl Aided, command: &Command<'_>) -> Outcome {
+        let server = self.leave_server(rt);
+        let (outcome, server) = self.run_over(rt, User::superuser(), command, server);
+        self.bring_back(server);
+        outcome
+    }
+
     /// One session of user 0 carries out both commands over the server in memory: what each ends with.
     pub(crate) fn run_both(
         &mut self,
