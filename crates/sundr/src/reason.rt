@@ -216,7 +216,7 @@ fn reason_of_folder<'a>(folder: &'a str, refusal: Refusal) -> Reason<'a> {
         },
         Refusal::NoKey => Reason::Of {
             name: folder,
-            words: "the key by which user 0 lists this user isn't here: is a seed of the folder missing?",
+            words: "a key by which user 0 listed this user isn't here: is a seed of the folder missing?",
         },
         _ => Reason::Of {
             name: folder,
