@@ -1,10 +1,12 @@
 -- What marking a leaf does to a ledger's file, also where a crash cuts it short.
-use Rattle.std.proofs.Common.{◌≡◌, ◌≢◌, ◌⊎◌, inl, inr, ℕ, ◌+◌, ◌-◌, ◌<◌, Bool, true, false, not, ◌||◌, ◌==◌, nat_eq, List, [], ◌∷◌, ◌++◌, length, get_or, set, refl, sym, ◌∙◌, ap, arith}
+use Rattle.std.proofs.Common.{◌≡◌, ◌≢◌, ◌⊎◌, inl, inr, ℕ, ◌+◌, ◌-◌, ◌<◌, Bool, true, false, not, ◌||◌, ◌==◌, nat_eq, List, [], ◌∷◌, ◌++◌, length, drop, get_or, set, refl, sym, ◌∙◌, ap, arith}
+use Rattle.std.specs.List.{filter}
+use Rattle.std.proofs.Math.Seq.{drop-append_seam}
 use Rattle.std.proofs.lemmas.Bool.{cases_eq, cases_lt}
 use Rattle.std.proofs.lemmas.Bool.Decides.{nat_tests}
 use Rattle.std.proofs.lemmas.List.{set-append_right, get_or_past, get_or-append-add, get_or-set_same, get_or-set_other, length-append}
 use Rattle.leaf_ledger.specs.Device.{Torn, extent, written}
-use Rattle.leaf_ledger.specs.Ledger.{is_used, UsedWith, UsedWithOrWithout, IsLeastFree, IsFileOf}
+use Rattle.leaf_ledger.specs.Ledger.{is_used, UsedWith, UsedWithOrWithout, IsLeastFree, IsFileOf, free_leaves}
 use Rattle.leaf_ledger.specs.Writes.{written_one, torn_front}
 
 either : (b : Bool) → (b ≡ true) ⊎ (b ≡ false)
@@ -58,6 +60,12 @@ module _ (key marks : List ℕ) (key_size : length key ≡ 56) where
 
   pub free_there : (m : ℕ) → get_or marks m 0 ≡ 0 → is_used (key ++ marks) m ≡ false
   free_there m free = used_at m ∙ ap (λ (x : ℕ). not (x == 0)) free
+
+  -- the leaves that aren't used, counted by the marks
+  pub count_marks : length (filter (λ mark. mark == 0) marks) ≡ free_leaves (key ++ marks)
+  count_marks =
+      let after : drop 56 (key ++ marks) ≡ marks = ap (λ (k : ℕ). drop k (key ++ marks)) (sym key_size) ∙ drop-append_seam key marks in
+      ap (λ (l : List ℕ). length (filter (λ mark. mark == 0) l)) (sym after)
 
   module _ (n : ℕ) (below : n < length marks) where
     pub marked : written (56 + n) (1 ∷ []) (key ++ marks) ≡ key ++ set marks n 1

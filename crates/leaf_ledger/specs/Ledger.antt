@@ -1,5 +1,6 @@
 -- What the file of a ledger says: 56 bytes of key, and a byte a leaf.
-use Rattle.std.specs.Prelude.{◌≡◌, ◌≢◌, ◌⊎◌, ℕ, ◌+◌, ◌<◌, ◌≤◌, Bool, true, false, not, ◌||◌, ◌==◌, nat_eq, length, take, get_or, set}
+use Rattle.std.specs.Prelude.{◌≡◌, ◌≢◌, ◌⊎◌, ℕ, ◌+◌, ◌<◌, ◌≤◌, Bool, true, false, not, ◌||◌, ◌==◌, nat_eq, length, take, drop, get_or, set}
+use Rattle.std.specs.List.{filter}
 use Rattle.layout.specs.Types.{Bytes, Key}
 use Rattle.leaf_ledger.specs.Device.{History, IsAtMostSynced}
 
@@ -53,6 +54,10 @@ pub record IsLeastFree (file : Bytes) (leaf : LeafNumber) : Type 0 where
 
 abbrev pub IsFull : Bytes → Type 0
 IsFull file = (leaf : LeafNumber) → leaf < number_of_leaves → is_used file leaf ≡ true
+
+-- how many leaves aren't used
+abbrev pub free_leaves : Bytes → ℕ
+free_leaves file = length (filter (λ mark. mark == free_mark) (drop size_of_key file))
 
 -- a ledger as its callers see it
 pub record LedgerState : Type 0 where

@@ -4,13 +4,13 @@ ghost use Rattle.std.specs.Prelude.{◌≡◌, ◌≢◌, ◌+◌, ◌-◌, ◌�
 ghost use Rattle.std.specs.Prelude.{IsErrOf, None};
 ghost use Rattle.leaf_ledger.specs.Device.{at_rest, Throughout, HasRisen};
 ghost use Rattle.leaf_ledger.specs.Ledger.{LeafNumber, with_mark, UsedWith, UsedWithOrWithout, UsedAsBefore};
-ghost use Rattle.leaf_ledger.specs.Ledger.{IsLeastFree, IsFull, IsFileOf, IsForeign, KeepsLedger};
+ghost use Rattle.leaf_ledger.specs.Ledger.{IsLeastFree, IsFull, IsFileOf, IsForeign, KeepsLedger, free_leaves};
 ghost use Rattle.leaf_ledger.specs.Life.{Call, handed_by};
 
 use crate::device::{Device, write_through};
 use crate::error::LedgerError;
 use crate::load::load;
-use crate::marks::first_free;
+use crate::marks::{count_free, first_free};
 use lms_sign::{Leaf, PublicKey, SpentLeaf};
 use std::marker::Model;
 
@@ -147,6 +147,14 @@ impl<D: Device> Ledger<D> {
             Some(number) => Some(number as u32),
             None => None,
         }
+    }
+
+    /// How many leaves aren't used.
+    pub fn free_leaves(&self) -> u32
+        requires { self.now.usable ≡ true }
+        ensures { result ≡ free_leaves self.now.file.now.text }
+    {
+        count_free(&self.marks) as u32
     }
 
     /// Takes a spent leaf back. It takes no memory.

@@ -1,6 +1,8 @@
 //! The marks of a ledger's leaves.
 
-ghost use Rattle.std.specs.Prelude.{◌≡◌, ◌≢◌, ◌<◌, ◌≤◌, ℕ, length, get_or, IfSome, IfNone};
+ghost use Rattle.std.specs.Prelude.{◌==◌, ◌≡◌, ◌≢◌, ◌<◌, ◌≤◌, ℕ, length, get_or, IfSome, IfNone};
+ghost use Rattle.std.specs.List.{filter};
+ghost use Rattle.leaf_ledger.specs.Ledger.{free_mark};
 
 /// The first place from one on whose mark is 0.
 pub(crate) fn first_free(marks: &[u8], from: usize) -> Option<usize>
@@ -15,4 +17,12 @@ pub(crate) fn first_free(marks: &[u8], from: usize) -> Option<usize>
         }
     }
     None
+}
+
+/// How many of the marks are 0.
+pub(crate) fn count_free(marks: &[u8]) -> usize
+    ensures count { result ≡ length (filter (λ mark. mark == free_mark) marks.now) }
+    ensures few { result ≤ length marks.now }
+{
+    marks.iter().filter(|mark| **mark == 0).count()
 }
