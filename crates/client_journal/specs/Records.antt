@@ -29,6 +29,10 @@ signature_size = 2508
 abbrev pub unsigned : Bytes → Bytes
 unsigned text = take (length text - signature_size) text
 
+-- the signature at its end
+abbrev pub signature_in : Bytes → Bytes
+signature_in text = drop (length text - signature_size) text
+
 -- two texts, each longer than a signature, of which the same was signed
 unfoldable pub same_unsigned : Bytes → Bytes → Bool
 same_unsigned a b =
