@@ -6,7 +6,7 @@ ghost use Rattle.std.specs.List.{position};
 ghost use Rattle.std.specs.Option.{option_copied};
 ghost use Rattle.lms_sign.specs.Keys.{public_key_of};
 ghost use Rattle.leaf_ledger.specs.Device.{HasRisen};
-ghost use Rattle.leaf_ledger.specs.Ledger.{IsLeastFree, LeafNumber};
+ghost use Rattle.leaf_ledger.specs.Ledger.{IsLeastFree, LeafNumber, free_leaves};
 ghost use Rattle.client_journal.specs.Records.{IsDamaged, State as Recorded, TellsState, unsigned as unsigned_part};
 ghost use Rattle.version_order.specs.Structure.{structure as structure_format};
 ghost use Rattle.update_cert.specs.Cert.{Cert as PureCert, cert};
@@ -269,6 +269,16 @@ impl<L: Device, J: Device, A: Allocator> Releases<L, J, A> {
             Some(leaf) => own.key.has_leaf(leaf),
             None => false,
         }
+    }
+
+    /// How many leaves of this key aren't used.
+    pub fn free_leaves(&self, key: usize) -> u32
+        requires key { HasKey key self.now }
+        requires stands { self.now.phase ≢ Phase.Failed }
+        ensures { result ≡ free_leaves (ledger_at key self.now.devices).file.now.text }
+    {
+        let own = &self.keys[key];
+        own.ledger.free_leaves()
     }
 
     /// Releases the certificate of the next operation, of this number: it is signed and journaled, and then handed out.
