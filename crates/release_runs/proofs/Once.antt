@@ -9,11 +9,11 @@ use Rattle.leaf_ledger.specs.Ledger.{LeafNumber}
 use Rattle.version_order.specs.Structure.{Structure, structure}
 use Rattle.update_cert.specs.Cert.{Cert, cert}
 use Rattle.pending_list.specs.declared.signed.Signed.{Signed}
-use Rattle.client_journal.specs.Records.{unsigned}
+use Rattle.client_journal.specs.Records.{signature_in, unsigned}
 use Rattle.client_releases.specs.Told.{cert_in, structure_in}
 use Rattle.client_releases.proofs.Again.{unsigned_of}
 use Rattle.release_runs.specs.Steps.{Owner, secret_of}
-use Rattle.release_runs.specs.Released.{leaf_in, signature_in}
+use Rattle.release_runs.specs.Released.{leaf_in}
 use Rattle.release_runs.proofs.Members.{In, map-in}
 use Rattle.release_runs.proofs.Stories.{IsNext, IsNumbered, IsStory, OfCert, OfStructure, Release, cert_of, key, leaf, mark, number_within, size_of, structure_below, structure_of, text}
 use Rattle.release_runs.proofs.Texts.{leaf_in_sent, no_cert, no_structure, signature_at}

@@ -6,13 +6,13 @@ use Rattle.lms_sign.specs.Signature.{signature_of}
 use Rattle.leaf_ledger.specs.Device.{History, started}
 use Rattle.leaf_ledger.specs.Life.{IsSure}
 use Rattle.client_journal.specs.Life.{IsPossible}
-use Rattle.client_journal.specs.Records.{Tells, unsigned}
+use Rattle.client_journal.specs.Records.{Tells, signature_in, unsigned}
 use Rattle.version_order.specs.Structure.{Structure}
 use Rattle.update_cert.specs.Cert.{Cert}
 use Rattle.client_releases.specs.Told.{cert_in, structure_in}
 use Rattle.release_runs.specs.Steps.{Call, Client, Closed, Closes, Commits, Crashes, Declares, Gains, IsLeft, IsSound, IsStep, Open, Opens, Owner, Parts, Resigns, Signs, first, journal_of, ledgers_of, secret_of}
 use Rattle.release_runs.specs.Runs.{AreInTurn, Event, IsInTurn, IsRun, client_of}
-use Rattle.release_runs.specs.Released.{leaf_in, released, released_by, signature_in}
+use Rattle.release_runs.specs.Released.{leaf_in, released, released_by}
 use Rattle.release_runs.specs.UsedOnce.{CertificatesOnce, EachRun, LeavesOnce, StructuresOnce}
 use Rattle.release_runs.proofs.Files.{Lies, file_at, gained_sure, lies_left, lies_on, only_this, still_sure}
 use Rattle.release_runs.proofs.Holds.{Holds, closes, commits, numbered_older}

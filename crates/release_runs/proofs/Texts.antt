@@ -18,6 +18,7 @@ use Rattle.lms_sign.specs.Secret.{Secret}
 use Rattle.lms_sign.specs.Signature.{leaf_of, path_of, signature_of}
 use Rattle.lms_sign.proofs.Validity.{length-signature}
 use Rattle.layout.specs.Ranges.{size, user, version}
+use Rattle.client_journal.specs.Records.{signature_in}
 use Rattle.version_order.specs.Plan.{plan}
 use Rattle.version_order.specs.Structure.{Structure, group_records, structure}
 use Rattle.version_order.specs.StructureLaws.{lawful_structure}
@@ -26,7 +27,7 @@ use Rattle.update_cert.specs.CertLaws.{lawful_cert}
 use Rattle.pending_list.specs.declared.signed.Signed.{Signed}
 use Rattle.pending_list.specs.Signed.{signature, signed}
 use Rattle.client_releases.specs.Told.{cert_in, own_in, structure_in}
-use Rattle.release_runs.specs.Released.{leaf_in, signature_in}
+use Rattle.release_runs.specs.Released.{leaf_in}
 
 -- ---- the parts of a text with its signature
 

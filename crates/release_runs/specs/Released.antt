@@ -1,17 +1,13 @@
 -- The texts that a client releases in a run.
-use Rattle.std.specs.Prelude.{◌-◌, List, [], ◌∷◌, ◌++◌, Ok, length, drop}
+use Rattle.std.specs.Prelude.{List, [], ◌∷◌, ◌++◌, Ok}
 use Rattle.layout.specs.Types.{Bytes}
 use Rattle.lms_sign.specs.Signature.{leaf_of}
 use Rattle.leaf_ledger.specs.Ledger.{LeafNumber}
-use Rattle.client_journal.specs.Records.{signature_size}
+use Rattle.client_journal.specs.Records.{signature_in}
 use Rattle.release_runs.specs.Steps.{Call, Client, Closed, Declares, Open, Opens, Resigns, Signs}
 use Rattle.release_runs.specs.Runs.{Event}
 
--- a released text has its signature at its end
-abbrev pub signature_in : Bytes → Bytes
-signature_in text = drop (length text - signature_size) text
-
--- the leaf by which it is signed
+-- the leaf by which a released text is signed
 abbrev pub leaf_in : Bytes → LeafNumber
 leaf_in text = leaf_of (signature_in text)
 

@@ -4,14 +4,14 @@ use Rattle.std.specs.Prelude.{◌≡◌, ◌<◌, ℕ, List, Some, length}
 use Rattle.std.specs.List.{Contains}
 use Rattle.layout.specs.Types.{Bytes}
 use Rattle.lms_sign.specs.Signature.{signature_of}
-use Rattle.client_journal.specs.Records.{unsigned}
+use Rattle.client_journal.specs.Records.{signature_in, unsigned}
 use Rattle.pending_list.specs.declared.signed.Signed.{Signed}
 use Rattle.version_order.specs.Structure.{Structure}
 use Rattle.update_cert.specs.Cert.{Cert}
 use Rattle.client_releases.specs.Told.{cert_in, structure_in}
 use Rattle.release_runs.specs.Steps.{Owner, secret_of}
 use Rattle.release_runs.specs.Runs.{AreInTurn, Event, IsRun}
-use Rattle.release_runs.specs.Released.{leaf_in, released, signature_in}
+use Rattle.release_runs.specs.Released.{leaf_in, released}
 
 -- what holds of each run
 abbrev pub EachRun : (Owner → List Event → Type 0) → Type 0
