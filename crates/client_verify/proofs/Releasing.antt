@@ -13,7 +13,7 @@ use Rattle.lms_sign.specs.Keys.{lms_type, ots_type, public_key_of}
 use Rattle.lms_sign.specs.Signature.{signature_of}
 use Rattle.lms_sign.proofs.Validity.{length-signature, signed_valid}
 use Rattle.leaf_ledger.specs.Ledger.{LeafNumber}
-use Rattle.client_journal.specs.Records.{Record}
+use Rattle.client_journal.specs.Records.{Record, unsigned as unsigned_part}
 use Rattle.version_order.specs.Structure.{Structure, structure}
 use Rattle.update_cert.specs.Change.{Change}
 use Rattle.update_cert.specs.Cert.{cert}
@@ -28,10 +28,10 @@ use Rattle.client_releases.specs.declared.error.ClientError.{ClientError}
 use Rattle.client_releases.specs.declared.error.ClientError.TheVariants as error
 use Rattle.client_releases.specs.declared.phase.Phase.{Phase}
 use Rattle.client_releases.specs.declared.phase.Phase.TheVariants as phase
-use Rattle.client_releases.proofs.Seen.{declared_with, failed_with, signed_with, with_signature}
+use Rattle.client_releases.proofs.Seen.{again_with, declared_with, failed_with, signed_with, with_signature}
 use Rattle.client_releases.proofs.Untouched.{none_tried, untouched}
 use Rattle.client_releases.proofs.UsedUp.{can_sign}
-use Rattle.client_verify.specs.State.{AcceptedView, Checked, IsOfDeclared, Ready, State, declared, declared_text, failed, named_key, newest_key, next_cert, next_structure, on, over, released, signed_over, signed_structure, signed_text, signer_of, signing_key, view_of}
+use Rattle.client_verify.specs.State.{AcceptedView, Checked, IsOfDeclared, Ready, State, declared, declared_text, failed, named_key, newest_key, next_cert, next_structure, on, over, released, resigned, resigned_text, signed_over, signed_structure, signed_text, signer_of, signing_key, view_of}
 use Rattle.reply_check.specs.Good.{with_own}
 use Rattle.client_verify.specs.OwnTexts.{SignedBoth}
 use Rattle.reply_check.specs.Verified.{IsSealed}
@@ -79,6 +79,10 @@ never_else Q (Err e) x other told is = let same : e ≡ x = cc in other (sym sam
 pub only_device : {T : Type 0} (Q : Type 0) (r : Result T ClientError) → IfErr r (λ e. (e ≡ error.Device) × Q) → IfErr r (λ e. (e ≢ error.Foreign) × (e ≢ error.Damaged) × (e ≢ error.NoKey))
 only_device Q (Ok v) told = tt
 only_device Q (Err e) told = let is = told.0 in (λ s. cc (is, s), λ s. cc (is, s), λ s. cc (is, s))
+
+pub only_device_again : {T : Type 0} (Q : Type 0) (r : Result T ClientError) → IfErr r (λ e. (e ≡ error.Device) × Q) → IfErr r (λ e. (e ≢ error.NoNumber) × (e ≢ error.Foreign) × (e ≢ error.Damaged) × (e ≢ error.NoKey))
+only_device_again Q (Ok v) told = tt
+only_device_again Q (Err e) told = let is = told.0 in (λ s. cc (is, s), λ s. cc (is, s), λ s. cc (is, s), λ s. cc (is, s))
 
 pub but_device : {T : Type 0} (Q P : Type 0) (r : Result T ClientError) → IfErr r (λ e. (e ≡ error.Device) × Q) → IfErr r (λ e. e ≢ error.Device → P)
 but_device Q P (Ok v) told = tt
@@ -218,6 +222,9 @@ over_is r s pinned other blocks held checked accepted ready view shown is key sa
 declared_is : (k : ℕ) (r s : Released) (d : OwnDevices) (n m : ℕ) (unsigned text : Bytes) (leaf : LeafNumber) → r ≡ s → n ≡ m → unsigned ≡ text → declared_with r d n (sent r k leaf unsigned) ≡ declared_with s d m (sent s k leaf text)
 declared_is k r s d n m unsigned text leaf is number same = rw (is, number, same) refl
 
+again_is : (k : ℕ) (r s : Released) (d : OwnDevices) (part text : Bytes) (leaf : LeafNumber) → r ≡ s → part ≡ text → again_with r d (sent r k leaf part) ≡ again_with s d (sent s k leaf text)
+again_is k r s d part text leaf is same = rw (is, same) refl
+
 -- a client after it declared: what it released before stands in the state before, whatever it knows of blocks by then
 module _ (r new : Released) (s : State) (pinned : List ℕ) (blocks : CheckedBlocks) (checked : Option Checked) (accepted : Option Ready) (view : Option AcceptedView) (b : CheckedBlocks) (is : client_over r pinned blocks checked accepted view ≡ over b s) where
   pub of_released : r ≡ released s
@@ -235,6 +242,21 @@ module _ (r new : Released) (s : State) (pinned : List ℕ) (blocks : CheckedBlo
   pub begun_failed : new ≡ failed_with r new.devices → client_over new pinned blocks None None view ≡ over blocks (on new.devices (failed s))
   begun_failed made =
       over_is new (failed_with (released s) new.devices) pinned s.pinned blocks blocks None None None view s.view (made ∙ ap (λ (o : Released). failed_with o new.devices) of_released) (ap (λ (o : State). o.pinned) is) refl refl (ap (λ (o : State). o.view) is)
+
+-- a client after it signed its certificate once more
+module _ (r new : Released) (s : State) (pinned : List ℕ) (blocks : CheckedBlocks) (checked : Option Checked) (accepted : Option Ready) (view : Option AcceptedView) (is : client_over r pinned blocks checked accepted view ≡ s) where
+  pub signed_again : (k : ℕ) (part : Bytes) (leaf : LeafNumber) → part ≡ unsigned_part s.text → IsKept leaf (cert_record (sent r k leaf part)) (under k r.devices) (under k new.devices)
+      → new ≡ again_with r new.devices (sent r k leaf part)
+      → (l : LeafNumber) × IsKept l (cert_record (resigned_text s k l)) (under k s.devices) (under k new.devices) × (client_over new pinned blocks None None view ≡ on new.devices (resigned s k l))
+  signed_again k part leaf text kept made = (
+    leaf,
+    seen (λ (o : Released) (t : Bytes). IsKept leaf (cert_record (sent o k leaf t)) (under k o.devices) (under k new.devices)) r (released s) part _ (ap released is) text kept,
+    over_is new _ pinned s.pinned blocks s.blocks None None None view s.view (made ∙ again_is k r (released s) new.devices part _ leaf (ap released is) text) (ap (λ (o : State). o.pinned) is) (ap (λ (o : State). o.blocks) is) refl (ap (λ (o : State). o.view) is),
+  )
+
+  pub again_failed : new ≡ failed_with r new.devices → client_over new pinned blocks None None view ≡ on new.devices (failed s)
+  again_failed made =
+      over_is new (failed_with (released s) new.devices) pinned s.pinned blocks s.blocks None None None view s.view (made ∙ ap (λ (o : Released). failed_with o new.devices) (ap released is)) (ap (λ (o : State). o.pinned) is) (ap (λ (o : State). o.blocks) is) refl (ap (λ (o : State). o.view) is)
 
 -- a client after it signed the structure over an accepted reply
 module _ (r new : Released) (s : State) (pinned : List ℕ) (blocks : CheckedBlocks) (checked : Option Checked) (accepted : Option Ready) (view : Option AcceptedView) (is : client_over r pinned blocks checked accepted view ≡ s) where
@@ -300,6 +322,11 @@ module _ (k : ℕ) (r : Released) (key : List ℕ) (is : key ≡ public_key_of (
   own_begun new n unsigned made both =
       subst (λ (o : Released). SignedBoth k o) (sym made) (record { has = both.has; own = record { structure = both.own.structure; sealed = seals_sent unsigned } })
 
+  -- nor does a certificate change it that is signed once more
+  pub own_again : (new : Released) (part : Bytes) → new ≡ again_with r new.devices (sent r k leaf part) → SignedBoth k r → SignedBoth k new
+  own_again new part made both =
+      subst (λ (o : Released). SignedBoth k o) (sym made) (record { has = both.has; own = record { structure = both.own.structure; sealed = seals_sent part } })
+
   pub own_signed : (new : Released) (z : Structure) (unsigned : Bytes) → new ≡ signed_with r new.devices (signed_by (secret_at k r) leaf z) (sent r k leaf unsigned) → HasKey k r → SignedBoth k new
   own_signed new z unsigned made held =
       subst (λ (o : Released). SignedBoth k o) (sym made)
@@ -327,6 +354,13 @@ pub own_after : {T E : Type 0} (res : Result T E) (k : ℕ) (r new : Released) (
     → SignedBoth k r → SignedBoth k new
 own_after (Ok v) k r new key n unsigned is size some done fault own = own_begun k r key is size done.0 done.1.least.below (can_sign (secret_at k r) (ledger_at k r.devices) done.0 done.1.least some) new n unsigned done.2 own
 own_after (Err e) k r new key n unsigned is size some done fault own = own_failed k r new fault own
+
+-- and after one that signed the certificate once more, or failed
+pub own_after_again : {T E : Type 0} (res : Result T E) (k : ℕ) (r new : Released) (key : List ℕ) (part : Bytes) → key ≡ public_key_of (secret_at k r) → length key ≡ 56 → (IsKeyUsedUp k r → ⊥)
+    → OnOk res ((leaf : LeafNumber) × IsKept leaf (cert_record (sent r k leaf part)) (under k r.devices) (under k new.devices) × (new ≡ again_with r new.devices (sent r k leaf part))) → OnErr res (new ≡ failed_with r new.devices)
+    → SignedBoth k r → SignedBoth k new
+own_after_again (Ok v) k r new key part is size some done fault own = own_again k r key is size done.0 done.1.least.below (can_sign (secret_at k r) (ledger_at k r.devices) done.0 done.1.least some) new part done.2 own
+own_after_again (Err e) k r new key part is size some done fault own = own_failed k r new fault own
 
 -- where nothing was released each key signed all of it
 pub first_signed : (r : Released) (o : Option ℕ) → IfSome o (λ n. HasKey n r × (r.last ≡ None) × (r.text ≡ [])) → IfSome o (λ n. SignedBoth n r)

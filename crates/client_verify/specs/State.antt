@@ -1,12 +1,15 @@
 -- A client as a machine: its state, and what each call makes of it.
-use Rattle.std.specs.Prelude.{◌≡◌, ℕ, ◌+◌, ◌-◌, ◌==◌, if◌then◌else◌, List, [], fold, length, Option, Some, None, IfSome, IsSomeAnd}
-use Rattle.std.specs.List.{position}
+use Rattle.std.specs.Prelude.{◌≡◌, ℕ, ◌+◌, ◌-◌, ◌==◌, Bool, if◌then◌else◌, List, [], fold, length, reverse, find, Option, Some, None, IfSome, IsSomeAnd}
+use Rattle.std.specs.List.{position, range_with_len}
 use Rattle.std.specs.Option.{option_and_then, option_map_or}
 use Rattle.std.specs.Ordering.{nat_cmp}
 use Rattle.layout.specs.Ascending.{with_row}
 use Rattle.layout.specs.Types.{Bytes, Digest, Handle, Key, User, Version}
+use Rattle.lms_sign.specs.Keys.{public_key_of}
 use Rattle.lms_sign.specs.Secret.{Secret}
+use Rattle.lms_sign.specs.Signature.{valid}
 use Rattle.leaf_ledger.specs.Ledger.{LeafNumber}
+use Rattle.client_journal.specs.Records.{signature_in, unsigned}
 use Rattle.version_order.specs.declared.structure.GroupRecord.{GroupRecord}
 use Rattle.version_order.specs.Plan.{Plan}
 use Rattle.version_order.specs.Vector.{version_of}
@@ -159,6 +162,28 @@ declared s leaf changes = record s {
   checked = None;
   accepted = None;
 }
+
+-- ---- signing the declared certificate again
+
+-- the declared certificate, as it is sent, signed by this leaf of this key
+abbrev pub resigned_text : State → ℕ → LeafNumber → Bytes
+resigned_text s n leaf = sent (released s) n leaf (unsigned s.text)
+
+-- the state after that: nothing is under check or accepted any more
+abbrev pub resigned : State → ℕ → LeafNumber → State
+resigned s n leaf = record s { text = resigned_text s n leaf; checked = None; accepted = None }
+
+-- the text ends in its signature by the key that is made of this
+abbrev pub signs_text : Bytes → Secret → Bool
+signs_text text secret = valid (public_key_of secret) (unsigned text) (signature_in text)
+
+-- the number of the newest of a client's keys that signed a text, if one did: they are tried from the last one down
+abbrev pub newest_signer : Bytes → Released → Option ℕ
+newest_signer text r = find (λ n. signs_text text (secret_at n r)) (reverse (range_with_len 0 (length r.secrets)))
+
+-- the number of the newest of the own keys that signed the declared text, if one did
+unfoldable pub declaring_key : State → Option ℕ
+declaring_key s = newest_signer s.text (released s)
 
 -- ---- judging
 

@@ -23,7 +23,7 @@ use std::alloc::Allocator;
 use update_cert::{Change, MOST_CHANGES, cert_text};
 
 /// The number of the key that signed all own texts, where it is this one.
-fn if_same(signer: Option<usize>, key: usize) -> Option<usize>
+pub(crate) fn if_same(signer: Option<usize>, key: usize) -> Option<usize>
     ensures { IfSome result (λ n. (n ≡ key) × (signer ≡ Some n)) }
 {
     match signer {
@@ -34,7 +34,7 @@ fn if_same(signer: Option<usize>, key: usize) -> Option<usize>
 
 impl<L: Device, J: Device, A: Allocator + Copy> Client<L, J, A> {
     /// The number of the newest key.
-    fn newest_key(&self) -> usize
+    pub(crate) fn newest_key(&self) -> usize
         ensures number { result ≡ newest_key self.now }
         ensures has { HasKey result (released self.now) }
     {

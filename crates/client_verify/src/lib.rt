@@ -9,6 +9,7 @@ mod keeping;
 mod laid;
 mod look;
 mod looking;
+mod resigning;
 mod signing;
 mod step;
 mod structure;
