@@ -4,8 +4,8 @@ use Rattle.std.proofs.lemmas.List.{append_assoc, append-nil, drop_at, get_or-app
 use Rattle.leaf_ledger.specs.Device.{Disk, History, Torn, Throughout, extent, at_rest, written, wrote_bytes, WroteSome, synced}
 use Rattle.leaf_ledger.specs.Moments.{along, stayed, rests, some_put, some_text, all_put}
 use Rattle.leaf_ledger.specs.Writes.{torn_front}
-use Rattle.record_log.specs.Records.{Record, chain, Tells, TellsWithOrWithout, AllShort}
-use Rattle.record_log.specs.Places.{Reaches, Ends, IsReady, IsLaidOut, MayAddAll, AddsAll}
+use Rattle.record_log.specs.Records.{Record, chain, Tells, TellsWithOrWithout, AllShort, Reaches}
+use Rattle.record_log.specs.Places.{Ends, IsReady, IsLaidOut, MayAddAll, AddsAll}
 use Rattle.record_log.proofs.Chains.{short-append, chain-append, chain-opens, one_telling}
 use Rattle.record_log.proofs.Reached.{split, ended}
 use Rattle.record_log.proofs.Staged.{more, kept_front, tells_staged, after_is, torn_gate, tells_after}

@@ -1,7 +1,7 @@
 -- Chains of records: more of them, those at the front, and that a file tells one list.
 use Rattle.std.proofs.Common.{◌≡◌, ◌≢◌, ℕ, ◌+◌, ◌<◌, ◌≤◌, List, [], ◌∷◌, ◌++◌, length, get_or, drop, inl, inr, refl, sym, ◌∙◌, ap, arith}
 use Rattle.std.proofs.lemmas.List.{append-nil, append_assoc, length-append}
-use Rattle.record_log.specs.Records.{Record, spelled, chain, AllShort, length_told, BeginsWith, Tells, IsDamaged}
+use Rattle.record_log.specs.Records.{Record, spelled, chain, AllShort, length_told, BeginsWith, Reaches, Tells, IsDamaged}
 use Rattle.record_log.proofs.Headers.{length-spelled, one_record, record_tells_length}
 
 pub short-append : (rs bs : List Record) → AllShort rs → AllShort bs → AllShort (rs ++ bs)
@@ -48,6 +48,14 @@ from_front (r ∷ rs) (s ∷ front) gate rest tail shut short short' is =
     let one = one_record r s (chain rs ++ gate ∷ rest) (chain front ++ tail) short.0 short'.0 following in
     let all = from_front rs front gate rest tail shut short.1 short'.1 one.1 in
     (all.0, ap (λ (x : Record). x ∷ rs) one.0 ∙ ap (λ (l : List Record). s ∷ l) all.1, all.2, all.3)
+
+-- what a file begins with are the first of its records
+pub first_told : (file : List ℕ) (gate : ℕ) (front rs : List Record) → Reaches file gate front → Tells rs file → (more : List Record) × (rs ≡ front ++ more)
+first_told file gate [] rs reaches tells = (rs, refl)
+first_told file gate (r ∷ front) rs reaches (inl none) = absurd (omega (arith, none.0, reaches.inside, reaches.size, no_longer (r ∷ front)))
+first_told file gate (r ∷ front) rs reaches (inr begins) =
+    let all = from_front rs (r ∷ front) begins.gate begins.rest (drop gate file) begins.shut begins.short reaches.short (sym begins.split ∙ reaches.split) in
+    (all.0, all.1)
 
 pub one_telling : (file : List ℕ) (a b : List Record) → Tells a file → Tells b file → a ≡ b
 one_telling file a b (inl none) tells = none.1 ∙ sym (in_new file b tells none.0)

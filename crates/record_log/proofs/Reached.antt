@@ -2,8 +2,7 @@
 use Rattle.std.proofs.Common.{◌≡◌, ◌≢◌, inr, ℕ, suc, ◌+◌, ◌<◌, List, [], ◌∷◌, ◌++◌, length, drop, get_or, refl, sym, ◌∙◌, ap, arith}
 use Rattle.std.proofs.lemmas.List.{length-append, length-drop}
 use Rattle.std.proofs.Math.Seq.{drop-cons}
-use Rattle.record_log.specs.Records.{Record, spelled, chain, Tells, EndsEarly, IsDamaged, IsShort}
-use Rattle.record_log.specs.Places.{Reaches}
+use Rattle.record_log.specs.Records.{Record, spelled, chain, Tells, EndsEarly, IsDamaged, IsShort, Reaches}
 use Rattle.record_log.proofs.Chains.{short-append, chain-push}
 
 gate_drop : (file : List ℕ) (gate : ℕ) → gate < length file → drop gate file ≡ get_or file gate 0 ∷ drop (gate + 1) file

@@ -1,18 +1,11 @@
 -- Nobody has to believe this file: an aid of private contracts.
 -- Where the records of a log end, and what an append makes of them.
-use Rattle.std.specs.Prelude.{◌≡◌, ◌≢◌, ℕ, ◌<◌, List, [], ◌∷◌, ◌++◌, length, take, drop, get_or}
+use Rattle.std.specs.Prelude.{◌≡◌, ◌≢◌, ℕ, Bool, true, ◌<◌, List, [], ◌∷◌, ◌++◌, length, take, get_or}
 use Rattle.layout.specs.Types.{Bytes}
 use Rattle.leaf_ledger.specs.Device.{Disk, History, Throughout, at_rest, written}
-use Rattle.record_log.specs.Records.{Record, open_gate, closed_gate, chain, AllShort, Tells, TellsWithOrWithout}
+use Rattle.record_log.specs.Records.{Record, open_gate, closed_gate, chain, AllShort, Reaches, Tells, TellsWithOrWithout}
 
--- up to a gate, the file is a chain of these records
-pub record Reaches (file : Bytes) (gate : ℕ) (records : List Record) : Type 0 where
-  pub split : file ≡ chain records ++ drop gate file
-  pub size : length (chain records) ≡ gate
-  pub inside : gate < length file
-  pub short : AllShort records
-
--- and there the records end: the gate isn't open
+-- at a gate the records end: it isn't open
 pub record Ends (file : Bytes) (gate : ℕ) : Type 0 where
   pub records : List Record
   pub reaches : Reaches file gate records
@@ -46,3 +39,12 @@ pub record AddsAll (added : List Record) (old new : History) : Type 0 where
   pub appended : (rs : List Record) → Tells rs old.now.text → Tells (rs ++ added) new.now.text
   pub file : (rs : List Record) → Tells rs old.now.text
       → new.now.text ≡ written 0 (chain (rs ++ added) ++ closed_gate ∷ []) old.now.text
+
+-- What is true of a log that is read back: its file is at rest, it has reached a gate after some records, and where it
+-- has ended that gate isn't open.
+pub record IsAt (disk : Disk) (size gate : ℕ) (ended : Bool) : Type 0 where
+  pub rest : disk ≡ at_rest disk.text
+  pub length_is : size ≡ length disk.text
+  pub records : List Record
+  pub reaches : Reaches disk.text gate records
+  pub shut : ended ≡ true → get_or disk.text gate 0 ≢ open_gate

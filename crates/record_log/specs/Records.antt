@@ -50,6 +50,13 @@ pub record BeginsWith (records : List Record) (file : Bytes) : Type 0 where
   pub shut : gate ≢ open_gate
   pub short : AllShort records
 
+-- up to a gate, the file is a chain of these records
+pub record Reaches (file : Bytes) (gate : ℕ) (records : List Record) : Type 0 where
+  pub split : file ≡ chain records ++ drop gate file
+  pub size : length (chain records) ≡ gate
+  pub inside : gate < length file
+  pub short : AllShort records
+
 -- a file of at most one byte is a new log
 abbrev pub IsNew : Bytes → Type 0
 IsNew file = length file ≤ 1
@@ -95,3 +102,15 @@ pub record LogFile : Type 0 where
   pub file : History
   pub faults : ℕ
   pub usable : Bool
+
+-- a log that is read back, as its callers see it: how far it is, where the file ends, and whether all was read
+pub record Reading : Type 0 where
+  pub file : History
+  pub faults : ℕ
+  pub place : ℕ
+  pub size : ℕ
+  pub ended : Bool
+
+-- these records were read
+abbrev pub HasRead : List Record → Reading → Type 0
+HasRead records r = Reaches r.file.now.text r.place records

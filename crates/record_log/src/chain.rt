@@ -1,11 +1,11 @@
 //! The records of a file, as they are found.
 
 ghost use Rattle.std.specs.Prelude.{◌≡◌, ◌≢◌, ◌+◌, ◌^◌, ◌<◌, ◌≤◌, ◌==◌, ◌++◌, ◌∷◌, [], Ok, true, false, length, take};
-ghost use Rattle.std.specs.Prelude.{drop, get_or, IfOk, OnOk, OnErr, IsErrOf};
-ghost use Rattle.leaf_ledger.specs.Device.{end_of_files, synced, IsAtMostSynced, Throughout, HasRisen, HasCause};
-ghost use Rattle.record_log.specs.Places.{Reaches, IsReady};
-ghost use Rattle.record_log.specs.Records.{open_gate, closed_gate, size_of_header, spelled, IsShort, Tells, IsNew};
-ghost use Rattle.record_log.specs.Records.{EndsEarly, IsDamaged, KeepsLog, MayBeLeft};
+ghost use Rattle.std.specs.Prelude.{drop, get_or, IfOk, IfSome, IfNone, OnOk, OnErr, IsErrOf, List};
+ghost use Rattle.leaf_ledger.specs.Device.{end_of_files, at_rest, synced, IsAtMostSynced, Throughout, HasRisen, HasCause};
+ghost use Rattle.record_log.specs.Places.{IsReady};
+ghost use Rattle.record_log.specs.Records.{Record as PureRecord, open_gate, closed_gate, size_of_header, spelled, IsShort};
+ghost use Rattle.record_log.specs.Records.{Reaches, Tells, IsNew, EndsEarly, IsDamaged, KeepsLog, MayBeLeft};
 
 use crate::error::LogError;
 use crate::record::{HEADER_SIZE, Record, read_header};
@@ -90,6 +90,46 @@ fn read_record<S: Storage, A: Allocator + Copy>(
     Ok((found, at + HEADER_SIZE + length))
 }
 
+/// The record after a gate, if the gate is open. Then the gate that comes after it is the next.
+pub(crate) fn next_record<S: Storage, A: Allocator + Copy>(
+    alloc: A,
+    storage: &mut S,
+    size: usize,
+    gate: &mut usize,
+) -> Result<Option<Record<A>>, LogError>
+    requires size { S.tells ≡ true → size ≡ length (S.history storage.old).now.text }
+    requires long { 1 < size }
+    requires inside { gate.old < size }
+    ensures inside { gate.new < size }
+    ensures further { IfOk result (λ found. IfSome found (λ _. gate.old < gate.new)) }
+    ensures reaches { IfOk result (λ found. IfSome found (λ r. S.tells ≡ true
+        → (rs : List PureRecord) → Reaches (S.history storage.old).now.text gate.old rs
+        → Reaches (S.history storage.old).now.text gate.new (rs ++ r ∷ []))) }
+    ensures ended { IfOk result (λ found. IfNone found (S.tells ≡ true
+        → get_or (S.history storage.old).now.text gate.old 0 ≢ open_gate)) }
+    ensures stays { IfOk result (λ found. IfNone found (gate.new ≡ gate.old)) }
+    ensures stays_err { OnErr result (gate.new ≡ gate.old) }
+    ensures damaged { S.tells ≡ true → IsErrOf result LogError.Damaged
+        → (rs : List PureRecord) → Reaches (S.history storage.old).now.text gate.old rs
+        → IsDamaged (S.history storage.old).now.text }
+    ensures same { S.history storage.new ≡ S.history storage.old }
+    ensures later { S.fault_count storage.old ≤ S.fault_count storage.new }
+    ensures device { IsErrOf result LogError.Device
+        → HasRisen (S.fault_count storage.old) (S.fault_count storage.new) }
+{
+    let at = *gate;
+    if !is_open(storage, at)? {
+        return Ok(None);
+    }
+    match read_record(alloc, storage, at + 1, size) {
+        Ok((one, next)) => {
+            *gate = next;
+            Ok(Some(one))
+        }
+        Err(error) => Err(error),
+    }
+}
+
 /// Finds one record more, if the gate is open. False where it isn't.
 fn advance<S: Storage, A: Allocator + Copy>(
     alloc: A,
@@ -115,18 +155,11 @@ fn advance<S: Storage, A: Allocator + Copy>(
     ensures device { IsErrOf result LogError.Device
         → HasRisen (S.fault_count storage.old) (S.fault_count storage.new) }
 {
-    let at = *gate;
-    if !is_open(storage, at)? {
+    let Some(one) = next_record(alloc, storage, size, gate)? else {
         return Ok(false);
-    }
-    match read_record(alloc, storage, at + 1, size) {
-        Ok((one, next)) => {
-            found.push(one)?;
-            *gate = next;
-            Ok(true)
-        }
-        Err(error) => Err(error),
-    }
+    };
+    found.push(one)?;
+    Ok(true)
 }
 
 /// Finds all records, and where they end.
@@ -166,6 +199,35 @@ fn synced_size<S: Storage>(storage: &mut S) -> Result<usize, DeviceError>
     Ok(size)
 }
 
+/// Where the file ends, which is made a log where it has at most one byte: then it has the closed gate alone. It is
+/// synced before anything is read, so that what is told here stays.
+pub(crate) fn start<S: Storage>(storage: &mut S) -> Result<usize, DeviceError>
+    ensures bounded { IfOk result (λ size. size < end_of_files) }
+    ensures some { IfOk result (λ size. 0 < size) }
+    ensures size { IfOk result (λ size. S.tells ≡ true → size ≡ length (S.history storage.new).now.text) }
+    ensures at_rest { OnOk result (S.tells ≡ true
+        → (S.history storage.new).now ≡ at_rest (S.history storage.new).now.text) }
+    ensures same { IfOk result (λ size. S.tells ≡ true → 1 < size
+        → (S.history storage.new).now.text ≡ (S.history storage.old).now.text) }
+    ensures made { IfOk result (λ size. S.tells ≡ true → size ≤ 1 → IsNew (S.history storage.old).now.text
+        × ((S.history storage.new).now.text ≡ closed_gate ∷ [])) }
+    ensures kept { S.tells ≡ true → KeepsLog (S.history storage.old) (S.history storage.new) }
+    ensures new { OnOk result (S.tells ≡ true → IsNew (S.history storage.old).now.text
+        → (S.history storage.new).now.text ≡ closed_gate ∷ []) }
+    ensures new_err { OnErr result (S.tells ≡ true → IsNew (S.history storage.old).now.text
+        → IsNew (S.history storage.new).now.text) }
+    ensures left { S.tells ≡ true
+        → Throughout (MayBeLeft (S.history storage.old)) (S.history storage.old) (S.history storage.new) }
+    ensures cause { HasCause (S.fault_count storage.old) (S.fault_count storage.new) result }
+{
+    let size = synced_size(storage)?;
+    if size <= 1 {
+        write_through(storage, 0, &[CLOSED])?;
+        return Ok(1);
+    }
+    Ok(size)
+}
+
 /// The records of the file, and where they end. A file of at most one byte is made a log. The storage is synced before
 /// anything is read, so that what is told here stays.
 pub(crate) fn find_all<S: Storage, A: Allocator + Copy>(
@@ -190,9 +252,8 @@ pub(crate) fn find_all<S: Storage, A: Allocator + Copy>(
     ensures device { IsErrOf result LogError.Device
         → HasRisen (S.fault_count storage.old) (S.fault_count storage.new) }
 {
-    let size = synced_size(storage)?;
+    let size = start(storage)?;
     if size <= 1 {
-        write_through(storage, 0, &[CLOSED])?;
         return Ok((0, Vec::new(alloc)));
     }
     walk(alloc, storage, size)

@@ -15,9 +15,11 @@ mod laws;
 mod laying;
 mod log;
 mod putting;
+mod reader;
 mod record;
 
 pub use error::LogError;
 pub use laws::{files_tell_or_are_damaged, records_stay};
 pub use log::RecordLog;
+pub use reader::LogReader;
 pub use record::Record;

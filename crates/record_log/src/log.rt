@@ -41,6 +41,23 @@ impl<S: Storage> Model for RecordLog<S> {
 }
 
 impl<S: Storage> RecordLog<S> {
+    ghost use Rattle.std.specs.Prelude.{◌+◌};
+    ghost use Rattle.leaf_ledger.specs.Device.{end_of_files};
+    ghost use Rattle.record_log.specs.Places.{IsReady};
+
+    /// The log over a file whose records end at this gate.
+    pub(crate) fn at_end(storage: S, gate: usize) -> RecordLog<S>
+        requires bounded { gate + 1 < end_of_files }
+        requires ready { S.tells ≡ true → IsReady (S.history storage).now gate }
+        ensures { result ≡ record { file = S.history storage; faults = S.fault_count storage; usable = true } }
+    {
+        RecordLog {
+            storage,
+            gate,
+            usable: true,
+        }
+    }
+
     /// Opens the log of a file, which is made where it has at most one byte, and reads its records back, the first of
     /// them first. A refusal hands the storage back.
     pub fn open<A: Allocator + Copy>(

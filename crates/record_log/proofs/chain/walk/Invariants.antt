@@ -1,5 +1,5 @@
 use Rattle.std.proofs.Common.{◌≡◌, ◌-◌, ◌<◌, ◌≤◌, true}
-use Rattle.record_log.specs.Places.{Reaches}
+use Rattle.record_log.specs.Records.{Reaches}
 use Rattle.record_log.proofs.chain.walk.Given as goal
 
 abbrev pub invariant-loop-found : goal.invariant-loop-found

@@ -1,6 +1,6 @@
-use Rattle.std.proofs.Common.{◌≤◌, length, ◌∙◌, arith}
+use Rattle.std.proofs.Common.{◌≤◌, length, arith}
 use Rattle.record_log.proofs.Opened.{at_most_synced, synced_once, gate_failed, gate_written}
-use Rattle.record_log.proofs.chain.find_all.Goals as goal
+use Rattle.record_log.proofs.chain.start.Goals as goal
 
 pub returns-in_err-size-clause-left : goal.returns-in_err-size-clause-left
 returns-in_err-size-clause-left g c tells =
@@ -21,5 +21,5 @@ returns-then-size-le1-clause-left g c tells =
 
 pub returns-clause-left : goal.returns-clause-left
 returns-clause-left g c tells =
-    synced_once (g.S.Storage.history c.args.storage.now) (g.S.Storage.history c.walk.new.storage)
-    (c.walk.ensures.same ∙ c.in_ok-size.ensures.synced tells)
+    synced_once (g.S.Storage.history c.args.storage.now) (g.S.Storage.history c.synced_size.new.storage)
+    (c.in_ok-size.ensures.synced tells)
