@@ -3,7 +3,6 @@
 ghost use Rattle.std.specs.Prelude.{◌≡◌, IsSome};
 
 use crate::blocks::StoredBlocks;
-use crate::laying::Work;
 use crate::outcome::Outcome;
 use crate::players::Player;
 use crate::server::exchange;
@@ -14,7 +13,7 @@ use layout::{INumber, Memory, Principal, let_go, put_in};
 use leaf_ledger::Device;
 use std::alloc::Allocator;
 use std::sync::Wait;
-use update_cert::MOST_CHANGES;
+use update_cert::{Change, MOST_CHANGES};
 use wire::{RequestKind, Status};
 
 /// What a client's error comes to.
@@ -36,18 +35,15 @@ fn declare<R: Wait, L: Device, J: Device, A: Allocator + Copy>(
     blocks: &StoredBlocks<'_, R, A>,
     who: Who,
     client: &mut Client<L, J, A>,
-    work: Work<A>,
+    changes: &[Change<A>],
+    laid: &[Vec<u8, A>],
 ) -> Result<Outcome<A>, Memory>
     requires { client.old.phase ≡ Phase.Idle }
 {
-    let Work { changes, laid } = work;
-    if changes.len() > MOST_CHANGES
-        || !are_laid(alloc, &laid, &changes)?
-        || !blocks.put_all(&laid)?
-    {
+    if changes.len() > MOST_CHANGES || !are_laid(alloc, laid, changes)? || !blocks.put_all(laid)? {
         return Ok(Outcome::Error);
     }
-    match client.begin(&changes, &laid) {
+    match client.begin(changes, laid) {
         Ok(_) => Ok(Outcome::Begun(who, client.number())),
         Err(error) => stopped(who, error),
     }
@@ -58,11 +54,12 @@ pub(crate) fn begin<R: Wait, A: Allocator + Copy>(
     alloc: A,
     blocks: &StoredBlocks<'_, R, A>,
     player: &mut Player<A>,
-    work: Work<A>,
+    changes: &[Change<A>],
+    laid: &[Vec<u8, A>],
 ) -> Result<Outcome<A>, Memory> {
     let who = player.who;
     match player.client.phase() {
-        Phase::Idle => declare(alloc, blocks, who, &mut player.client, work),
+        Phase::Idle => declare(alloc, blocks, who, &mut player.client, changes, laid),
         _ => Ok(Outcome::Busy(who)),
     }
 }
@@ -151,6 +148,37 @@ fn edited<A: Allocator + Copy>(
     }
 }
 
+/// Sends the declared certificate: what came, or why it couldn't be signed again. While it is declined for its
+/// signature, it is signed by each other key of the client once, from the newest to the first, and sent again.
+fn sent<L: Device, J: Device, A: Allocator + Copy>(
+    alloc: A,
+    server: &mut Hostile<A>,
+    client: &mut Client<L, J, A>,
+) -> Result<Result<(Status, Vec<u8, A>), ClientError>, Memory>
+    requires { client.old.phase ≡ Phase.Declared }
+{
+    let mut answer = exchange(alloc, server, RequestKind::Update, client.declared())?;
+    if answer.0 != Status::BadSignature {
+        return Ok(Ok(answer));
+    }
+    let signer = client.declared_by();
+    for key in (0..client.key_count()).rev() {
+        if signer == Some(key) || key >= client.key_count() || client.phase() != Phase::Declared {
+            continue;
+        }
+        let text = match client.resign(key) {
+            Ok(text) => text,
+            Err(error) => return Ok(Err(error)),
+        };
+        let next = exchange(alloc, server, RequestKind::Update, &text)?;
+        put_in(&mut answer, next);
+        if answer.0 != Status::BadSignature {
+            break;
+        }
+    }
+    Ok(Ok(answer))
+}
+
 /// Sends the declared certificate, and takes the reply after this edit of it. Where it is accepted, the text of the
 /// signed structure is the client's last.
 pub(crate) fn update<R: Wait, A: Allocator + Copy>(
@@ -165,11 +193,17 @@ pub(crate) fn update<R: Wait, A: Allocator + Copy>(
     if client.phase() != Phase::Declared {
         return Ok(Outcome::Busy(who));
     }
-    let (status, reply) = exchange(alloc, server, RequestKind::Update, client.declared())?;
+    let (status, reply) = match sent(alloc, server, client)? {
+        Ok(answer) => answer,
+        Err(error) => return stopped(who, error),
+    };
     if status != Status::Ok {
         return Ok(Outcome::Declined(who, status));
     }
     let reply = edited(server, reply, edit)?;
+    if client.phase() != Phase::Declared {
+        return Ok(Outcome::Busy(who));
+    }
     accept(alloc, blocks, who, client, &mut player.last, &reply)
 }
 

@@ -36,6 +36,8 @@ pub(crate) enum TableTask {
     AddMember(Group, User),
     /// `dropmember G V`.
     DropMember(Group, User),
+    /// `setkey V`: the key is V's next one, which V's client has from then on, but for user 0's.
+    SetKey(User),
 }
 
 /// A change of a script.
@@ -130,6 +132,7 @@ fn membership(words: &mut Split<'_, char>) -> Result<(Group, User), Unread> {
 fn table_task(verb: &str, words: &mut Split<'_, char>) -> Result<Option<TableTask>, Unread> {
     match verb {
         "adduser" => Ok(Some(TableTask::AddUser(user(words)?))),
+        "setkey" => Ok(Some(TableTask::SetKey(user(words)?))),
         "addmember" => {
             let (group, user) = membership(words)?;
             Ok(Some(TableTask::AddMember(group, user)))

@@ -2,7 +2,7 @@
 
 use crate::blocks::StoredBlocks;
 use crate::command::Command;
-use crate::laying::work_of;
+use crate::laying::{NamedKeys, Work, have_keys, work_of};
 use crate::operation::{begin, commit, restarted, show, update};
 use crate::outcome::Outcome;
 use crate::players::Players;
@@ -41,6 +41,14 @@ impl<'a, R: Wait, A: Allocator + Copy> World<'a, R, A> {
         })
     }
 
+    /// Users' own clients have the keys that an operation names.
+    fn gain(&mut self, keys: NamedKeys<A>) -> Result<(), Memory> {
+        for (user, key) in keys {
+            self.players.gain(user, key)?;
+        }
+        Ok(())
+    }
+
     /// Lays out what the tasks name, and declares the operation: only where the client has none is anybody named.
     fn begin(&mut self, who: Who, tasks: Vec<Task<A>, A>) -> Result<Outcome<A>, Memory> {
         let (named, again) = (who, who);
@@ -50,16 +58,25 @@ impl<'a, R: Wait, A: Allocator + Copy> World<'a, R, A> {
         if self.players.list[place].client.phase() != Phase::Idle {
             return Ok(Outcome::Busy(who));
         }
+        if !have_keys(&mut self.players, &tasks)? {
+            return Ok(Outcome::Error);
+        }
         let work = match work_of(self.alloc, &mut self.players, tasks) {
             Ok(work) => work,
             Err(LayError::TooLarge) => return Ok(Outcome::Error),
             Err(LayError::Memory) => return Err(Memory),
         };
+        let Work {
+            changes,
+            laid,
+            keys,
+        } = work;
+        self.gain(keys)?;
         let Some(place) = self.players.place_of(again)? else {
             return Ok(Outcome::Error);
         };
         let player = &mut self.players.list[place];
-        begin(self.alloc, &self.blocks, player, work)
+        begin(self.alloc, &self.blocks, player, &changes, &laid)
     }
 
     /// Sends the client's certificate to the server, and hands in its reply after this edit.
