@@ -133,6 +133,34 @@ pub fn declare_changes(
     given(rt, begun(rt, client, &changes, &laid), "a certificate")
 }
 
+/// What the client answers where it signs the declared certificate once more, by the key of this number.
+pub fn signed_again(
+    rt: &impl Aided,
+    client: &mut MemoryClient,
+    key: usize,
+) -> Result<Vec<u8>, ClientError> {
+    if client.phase() != Phase::Declared || key >= client.key_count() {
+        rt.fail("it can't sign once more");
+    }
+    client.resign(key)
+}
+
+/// The number of the newest key that signed the declared certificate, if an own one did.
+pub fn declaring_key(rt: &impl Aided, client: &MemoryClient) -> Option<usize> {
+    if client.phase() != Phase::Declared {
+        rt.fail("nothing is declared");
+    }
+    client.declared_by()
+}
+
+/// How many leaves of the newest key aren't used.
+pub fn leaves_left(rt: &impl Aided, client: &MemoryClient) -> u32 {
+    if client.phase() == Phase::Failed {
+        rt.fail("a device failed");
+    }
+    client.free_leaves()
+}
+
 /// Hands a reply to the client.
 pub fn step_on(rt: &impl Aided, client: &mut MemoryClient, reply: &[u8]) -> Step<Global> {
     if client.phase() != Phase::Declared {

@@ -13,7 +13,10 @@ use tests_aids::numbers::{i_number, principal};
 use tests_aids::texts::{changed, joined};
 use tests_aids::{Host, check};
 use tests_client_aids::changes::{Planned, nothing};
-use tests_client_aids::clients::{MemoryClient, begun, end, give, hand, look_at, signed, step_on};
+use tests_client_aids::clients::{
+    MemoryClient, begun, declaring_key, end, give, hand, leaves_left, look_at, signed,
+    signed_again, step_on,
+};
 use tree_parts::Blocks;
 use wire::Status;
 
@@ -256,6 +259,18 @@ fn declare(
     answer
 }
 
+/// By which of its keys the client signed what it has declared, if by one, how many keys it has, and how many leaves of
+/// the newest aren't used.
+fn keys_told(rt: &impl Host, client: &MemoryClient) -> Vec<u8> {
+    let mut told = Vec::new(rt.alloc());
+    if let Some(key) = declaring_key(rt, client) {
+        push(rt, &mut told, &[(key % 256) as u8]);
+    }
+    push(rt, &mut told, &[(client.key_count() % 256) as u8]);
+    push(rt, &mut told, &leaves_left(rt, client).to_be_bytes());
+    told
+}
+
 /// What was asked for, as digests, and what was new, each text after its size.
 #[derive(Drop)]
 pub(crate) struct Lists {
@@ -323,7 +338,8 @@ fn judge_text(
     step_told(rt, store, &mut lists.new, step)
 }
 
-/// A client acts: it declares (`d`), signs (`i`), ends (`o`), tells of itself (`n`, `q`), or judges.
+/// A client acts: it declares (`d`), anew or by a key once more, signs (`i`), ends (`o`), tells of itself (`n`, `q`, and
+/// `w` alone), or judges.
 pub(crate) fn client_acts(
     rt: &impl Host,
     client: &mut MemoryClient,
@@ -336,8 +352,12 @@ pub(crate) fn client_acts(
         _ => 0,
     };
     let answer = match verb {
-        b'd' => declare(rt, client, stage),
+        b'd' => match words {
+            [_, key] => signed_again(rt, client, usize::from(byte(key))),
+            _ => declare(rt, client, stage),
+        },
         b'i' => signed(rt, client),
+        b'w' if words.is_empty() => return keys_told(rt, client),
         b'n' => return now(rt, client, &mut stage.by_hand.texts, letter),
         b'q' => return view(rt, client, &mut stage.by_hand.texts, letter),
         b'o' => return ended(rt, client),

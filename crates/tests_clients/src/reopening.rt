@@ -133,17 +133,19 @@ pub(crate) fn restart(
 }
 
 /// A client is closed, and opened again with one key more, which others have as this user's, and a ledger that holds
-/// nothing; where none is named, without its newest key.
+/// the text of the words after it; where none is named, without its newest key.
 pub(crate) fn open_with_keys(
     rt: &impl Host,
     slot: &mut Option<MemoryClient>,
+    by_hand: &ByHand,
     user: u8,
     key: &[&[u8]],
 ) {
     let mut parts = slot.take().expect(rt, "a client").close();
     match key {
-        [key] => {
-            let own = (key_of(rt, byte(key)), device_of(rt, b""));
+        [key, ledger @ ..] => {
+            let ledger = device_of(rt, &text_of(rt, by_hand, ledger));
+            let own = (key_of(rt, byte(key)), ledger);
             parts.keys.push(own).expect(rt, "memory");
         }
         _ => let_go(parts.keys.pop()),

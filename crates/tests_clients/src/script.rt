@@ -18,14 +18,18 @@
 //!
 //! - `plan make OWNER NUMBER FILE`, `put`, `remove OWNER NUMBER`, `mkdir`, `link OWNER NUMBER NAME TARGET`, `unlink
 //!   OWNER NUMBER NAME`, `list USER KEY`, `set KEY USER`, `member GROUP USER` and `drop GROUP USER` plan changes.
-//!   `declare USER X`: text X is the certificate of the user's next operation, of these changes.
+//!   `declare USER X`: text X is the certificate of the user's next operation, of these changes. `declare USER X KEY`:
+//!   it is the declared one, signed once more by the own key of this number.
 //! - `hear USER X`: a reply is judged, with the stored blocks. `ask USER X` hands in the reply alone, and `give USER X`
 //!   then a block; `give USER -` none.
 //! - `issue USER X`: text X is the structure that the client signs. `over USER`: it was committed.
 //! - `now USER X` tells in which phase the client is, and its number; text X is what it has declared or signed. `query
 //!   USER X` tells whether it has a view, and its lost changes; text X is the view's only structure.
+//! - `who USER` tells by which own key the declared certificate is signed, if by one, and how many keys the client has,
+//!   each in a byte, and how many leaves of the newest aren't used.
 //! - `restart USER closed`: it is closed, and opened again. Other words say what is left of it, and what changes then.
-//!   `restart USER gains KEY`: it has this key more, with an empty ledger; `restart USER loses`: its newest key is gone.
+//!   `restart USER gains KEY LEDGER`: it has this key more, with a ledger of this text, or an empty one; `restart USER
+//!   loses`: its newest key is gone.
 //! - `look USER OWNER NUMBER`, `what USER OWNER NUMBER`, `vacant USER OWNER FIRST LAST`: a look with the stored blocks,
 //!   at what stands there, at its kind, and for the least i-number at which nothing stands.
 //!
@@ -248,7 +252,7 @@ fn actor_acts(
         b'r' => {
             let slot = slot_of(rt, users, user);
             if let [b"gains" | b"loses", key @ ..] = rest {
-                open_with_keys(rt, slot, user, key);
+                open_with_keys(rt, slot, &stage.by_hand, user, key);
             } else {
                 return restart(rt, slot, &mut stage.by_hand, user, rest);
             }

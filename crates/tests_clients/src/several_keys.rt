@@ -1,5 +1,6 @@
 //! A client of several keys: the newest one signs its certificates, and of its structures each is signed by the key that
-//! the table of principals has at its plan's version of user 0.
+//! the table of principals has at its plan's version of user 0. A declared certificate is signed once more by the one
+//! that is asked for.
 
 use crate::here::Here;
 use crate::script::play;
@@ -75,4 +76,100 @@ static LACKING: &[u8] = b"\
 #[test]
 fn key_is_lacking(rt: HostRuntime) {
     play(&(rt, Here), &[LISTED, RENEWED, LACKING]);
+}
+
+/// User 1 declares under its first key, gets the second one, and signs its certificate once more by that and by the
+/// first one, each time by the next leaf of the key.
+static BY_EACH: &[u8] = b"\
+    declare 1 u\n\
+    who 1 = 00 01 :1023\n\
+    restart 1 gains 3\n\
+    who 1 = 00 02 :1024\n\
+    text c 'SUC1 01 :1 $0 00\n\
+    declare 1 v 1\n\
+    key x c 0 3\n\
+    equal v = x\n\
+    who 1 = 01 02 :1023\n\
+    declare 1 w 0\n\
+    key x c 1 1\n\
+    equal w = x\n\
+    who 1 = 00 02 :1023\n\
+    declare 1 v 1\n\
+    key x c 1 3\n\
+    equal v = x\n\
+    now 1 x = 'declared :1\n\
+    equal x = v\n\
+    restart 1 loses\n\
+    who 1 = 01 :1022\n\
+    now 1 x = 'declared :1\n\
+    equal x = v\n";
+
+#[test]
+fn each_key_signs_once_more(rt: HostRuntime) {
+    play(&(rt, Here), &[LISTED, BY_EACH]);
+}
+
+/// A reply is under check, or accepted, as the certificate is signed once more: it is dropped, and only one to the new
+/// text is accepted.
+static DROPS: &[u8] = b"\
+    declare 1 u\n\
+    restart 1 gains 3\n\
+    text p 'SVP1 01 :1 %u 02 00 :2 01 :1 00\n\
+    text r 'SRL1 01 *z z 01 *u u +p p\n\
+    between h z 54 86\n\
+    ask 1 r = 'need h\n\
+    query 1 = 'wants\n\
+    declare 1 v 1\n\
+    query 1 =\n\
+    hear 1 r = 'OwnPending\n\
+    text r 'SRL1 01 *z z 01 *v v +p p\n\
+    hear 1 r = 'accepted\n\
+    declare 1 w 1\n\
+    hear 1 r = 'OwnPending\n\
+    text r 'SRL1 01 *z z 01 *w w +p p\n\
+    hear 1 r = 'accepted\n\
+    issue 1 s\n\
+    text y 'SVS1 +p p #a 00\n\
+    key x y 2 3\n\
+    equal s = x\n";
+
+#[test]
+fn replies_to_the_text_before_are_dropped(rt: HostRuntime) {
+    play(&(rt, Here), &[LISTED, RENEWED, DROPS]);
+}
+
+/// The server places no certificate that is signed by the key before, and one that is signed once more.
+static DECLINED: &[u8] = b"\
+    declare 1 u\n\
+    update 0 u bad_signature r\n\
+    restart 1 gains 3\n\
+    declare 1 v 1\n\
+    update 0 v ok r\n\
+    hear 1 r = 'accepted\n\
+    issue 1 s\n\
+    commit 0 s ok\n\
+    over 1\n";
+
+#[test]
+fn signed_once_more_after_it_was_declined(rt: HostRuntime) {
+    play(&(rt, Here), &[LISTED, RENEWED, DECLINED]);
+}
+
+/// No leaf of the second key is left: the client is as before, and signs by the first key.
+static USED_UP: &[u8] = b"\
+    declare 1 u\n\
+    text l !3 $1 01\n\
+    restart 1 gains 3 l\n\
+    who 1 = 00 02 :0\n\
+    declare 1 v 1 = 'NoLeaf\n\
+    now 1 x = 'declared :1\n\
+    equal x = u\n\
+    declare 1 v 0\n\
+    text c 'SUC1 01 :1 $0 00\n\
+    key x c 1 1\n\
+    equal v = x\n";
+
+#[test]
+fn no_leaf_signs_once_more(rt: HostRuntime) {
+    play(&(rt, Here), &[LISTED, USED_UP]);
 }
