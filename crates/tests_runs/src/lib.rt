@@ -55,6 +55,8 @@ mod premises;
 #[cfg(test)]
 mod refuted;
 #[cfg(test)]
+mod renewed_scripts;
+#[cfg(test)]
 mod runs;
 #[cfg(test)]
 mod scripts;

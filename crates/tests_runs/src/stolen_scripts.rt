@@ -2,7 +2,7 @@
 
 use crate::scripts::prints_beside;
 
-static STOLEN: [&str; 4] = [
+static STOLEN: [&str; 6] = [
     // Users 1 and 2 are listed. A thief writes with user 1's key to user 1's part, and in vain to user 2's; the number
     // of its operation is then no more free for user 1.
     "\
@@ -104,6 +104,53 @@ commit 1* a -> 1* committed
 begin 0 -> 0 begin 2
 update 0 a -> 0 accepted 2
 show 0 1 3 -> 0 file evil
+",
+    // A further key is the user's own client's. Once it is listed the stolen one is declined; what the thief has pending
+    // by then goes on.
+    "\
+begin 0 adduser 1; adduser 2 -> 0 begin 1
+update 0 a -> 0 accepted 1
+commit 0 a -> 0 committed
+steal 1 -> steal
+begin 0 setkey 1 -> 0 begin 2
+update 0 a -> 0 accepted 2
+commit 0 a -> 0 committed
+begin 1* make 1 3 file evil -> 1* begin 1
+update 1* a -> 1* status 3
+begin 1 make 1 3 file mine -> 1 begin 1
+update 1 a -> 1 accepted 1
+commit 1 a -> 1 committed
+update 1* a -> 1* status 3
+begin 2 -> 2 begin 1
+update 2 a -> 2 accepted 1
+show 2 1 3 -> 2 file mine
+",
+    // But a further key takes nothing from a stolen one: in the history of a server that keeps it back the thief signs.
+    // Who has a stolen copy of two keys signs by both.
+    "\
+begin 0 adduser 1; adduser 2 -> 0 begin 1
+update 0 a -> 0 accepted 1
+commit 0 a -> 0 committed
+steal 1 -> steal
+fork a b -> fork
+begin 0 setkey 1; setkey 2 -> 0 begin 2
+update 0 a -> 0 accepted 2
+commit 0 a -> 0 committed
+begin 1* make 1 3 file evil -> 1* begin 1
+update 1* a -> 1* status 3
+update 1* b -> 1* accepted 1
+commit 1* b -> 1* committed
+steal 2 -> steal
+begin 2 -> 2 begin 1
+update 2 b -> 2 accepted 1
+show 2 1 3 -> 2 file evil
+begin 2* make 2 3 file worse -> 2* begin 1
+update 2* a -> 2* accepted 1
+commit 2* a -> 2* committed
+begin 1 -> 1 begin 1
+update 1 a -> 1 accepted 1
+show 1 1 3 -> 1 none
+show 1 2 3 -> 1 file worse
 ",
 ];
 
