@@ -223,6 +223,15 @@ impl<L: Device, J: Device, A: Allocator + Copy> Client<L, J, A> {
         self.releases.ledger(0)
     }
 
+    /// The device of this key's ledger, to be looked at.
+    pub fn ledger_of(&self, key: usize) -> &L
+        requires { HasKey key (released self.now) }
+        ensures file { L.history result.now ≡ (ledger_at key self.now.devices).file }
+        ensures faults { L.fault_count result.now ≡ (ledger_at key self.now.devices).faults }
+    {
+        self.releases.ledger(key)
+    }
+
     /// And that of the journal.
     pub fn journal(&self) -> &J
         ensures file { J.history result.now ≡ self.now.devices.journal.file }
