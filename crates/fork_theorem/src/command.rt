@@ -22,7 +22,7 @@ pub(crate) enum Command<A: Allocator> {
     Restart(Who),
     /// `show U P I`: what stands there in the client's view.
     Show(Who, Principal, INumber),
-    /// `steal V`: a second client has V's key, and what V's client has released so far. Lines name it `V*`.
+    /// `steal V`: a second client has V's keys, and what V's client has released so far. Lines name it `V*`.
     Steal(User),
     /// `fork X Y`: Y becomes a copy of X.
     Fork(ServerName, ServerName),

@@ -25,7 +25,7 @@ pub(crate) enum Outcome<A: Allocator> {
     Declined(Who, Status),
     /// The structure was committed.
     Committed(Who),
-    /// The user's key has no leaf left.
+    /// The key that is to sign has no leaf left.
     NoLeaf(Who),
     /// The user has no number left.
     NoNumber(Who),
@@ -33,7 +33,7 @@ pub(crate) enum Outcome<A: Allocator> {
     NoKey(Who),
     /// A device of the user's failed.
     Device(Who),
-    /// The user's ledger is another key's.
+    /// A ledger of the user's is another key's.
     Foreign(Who),
     /// The user's journal is damaged.
     Damaged(Who),
@@ -49,7 +49,7 @@ pub(crate) enum Outcome<A: Allocator> {
     Directory(Who, Directory<A>),
     /// Nothing stands there.
     Nothing(Who),
-    /// A second client has a user's key.
+    /// A second client has a user's keys.
     Stolen,
     /// A server became a copy of another.
     Forked,

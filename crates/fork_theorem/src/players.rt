@@ -23,7 +23,7 @@ pub(crate) struct Player<A: Allocator + Copy> {
     pub(crate) who: Who,
     pub(crate) client: Client<MemoryDevice<A>, MemoryDevice<A>, A>,
     key: PublicKey,
-    /// How many keys `setkey` has named of it.
+    /// How many keys it has beside its first one, or, of user 0, `setkey` has named.
     later_keys: u8,
     /// The text of its last signed structure: no bytes before the first.
     pub(crate) last: Vec<u8, A>,
@@ -209,7 +209,8 @@ impl<A: Allocator + Copy> Players<A> {
         ensures { IfOk result (λ place. place < vec_len self.new.list) }
     {
         let (pinned, capacity) = (self.pinned, self.capacity);
-        let player = first_open(self.alloc, who, later_keys, pinned, capacity, journal)?;
+        let mut player = first_open(self.alloc, who, later_keys, pinned, capacity, journal)?;
+        player.later_keys = later_keys;
         self.list.push(player)?;
         Ok(self.list.len() - 1)
     }
@@ -225,8 +226,8 @@ impl<A: Allocator + Copy> Players<A> {
         self.make(Who::own(user), 0, journal)
     }
 
-    /// Where a client stands in the list. A user's own is made when it is first named; one that has a user's stolen key
-    /// is there once that was stolen.
+    /// Where a client stands in the list. A user's own is made when it is first named; one that has a user's stolen
+    /// keys is there once these were stolen.
     pub(crate) fn place_of(&mut self, who: Who) -> Result<Option<usize>, Memory>
         ensures { IfOk result (λ place. IfSome place (λ place. place < vec_len self.new.list)) }
     {

@@ -3,7 +3,7 @@
 use layout::User;
 use std::fmt;
 
-/// A client of a user: the user's own, or the one that has the user's stolen key.
+/// A client of a user: the user's own, or the one that has the user's stolen keys.
 #[derive(Clone, Copy, PartialEq, Eq)]
 pub(crate) struct Who {
     pub(crate) user: User,
@@ -19,7 +19,7 @@ impl Who {
         }
     }
 
-    /// The client that has the user's stolen key.
+    /// The client that has the user's stolen keys.
     pub(crate) fn thief(user: User) -> Who {
         Who {
             user,
