@@ -1,14 +1,17 @@
 -- What a command asks for, and what is told of it, where it is known what is read at each i-number: at the place of the
 -- table of principals, a file of its text.
 use Rattle.std.specs.Prelude.{max, ℕ, zero, suc, ◌+◌, ◌-◌, ◌*◌, ◌==◌, ◌&&◌, Bool, true, false, not, if◌then◌else◌}
-use Rattle.std.specs.Prelude.{List, [], ◌∷◌, length, Option, Some, None, is_some, nat_lt}
+use Rattle.std.specs.Prelude.{List, [], ◌∷◌, length, map, Option, Some, None, is_some, nat_lt}
 use Rattle.std.specs.Option.{option_and_then, option_map_or}
 use Rattle.layout.specs.Types.{Bytes, INumber, Principal, User}
 use Rattle.itable.specs.declared.inode.TheConstants.{FILE_SIZE}
 use Rattle.directory.specs.Directory.{target_of}
 use Rattle.directory.specs.declared.target.Target.{Target}
-use Rattle.update_cert.specs.Change.{Action, Make, Put, Remove, Link, Unlink, AddUser, AddMember, DropMember, Change}
-use Rattle.update_cert.specs.Change.{of_table}
+use Rattle.update_cert.specs.Change.{Action, Make, Put, Remove, Link, Unlink, AddUser, AddMember, DropMember, SetKey}
+use Rattle.update_cert.specs.Change.{Change, of_table}
+use Rattle.update_cert.specs.declared.cert.TheConstants.{MOST_CHANGES}
+use Rattle.update_cert.specs.declared.change.TableChange.{TableChange}
+use Rattle.update_cert.specs.declared.change.TableChange.TheVariants as table_change
 use Rattle.update_cert.specs.World.{Content, File, Directory, Principals, Tree, entries_of}
 use Rattle.commands.specs.Paths.{Path, path_of, place_of}
 use Rattle.commands.specs.Answers.{Answer, Done, Shown, Listing, Lost, Refused}
@@ -189,6 +192,24 @@ outcome_of new (course.UnlinkAndRemove directory name t) =
     Writes (change_at directory (Unlink name.now) ∷ change_at t Remove ∷ [])
 outcome_of new (course.Link directory name t) = Writes (link_at directory name.now t ∷ [])
 
+-- what is done to the table of principals
+abbrev pub on_table : TableChange → Action Content
+on_table (table_change.AddUser who key) = AddUser who key
+on_table (table_change.AddMember group who) = AddMember group who
+on_table (table_change.DropMember group who) = DropMember group who
+on_table (table_change.SetKey who key) = SetKey who key
+
+abbrev pub all_on_table : List TableChange → List (Change Content)
+all_on_table changes = map (λ c. of_table (on_table c)) changes
+
+-- the one change of the table of principals that a command asks for
+abbrev pub table_change_of : Command → Option TableChange
+table_change_of (command.AddUser who key) = Some (table_change.AddUser who key)
+table_change_of (command.SetKey who key) = Some (table_change.SetKey who key)
+table_change_of (command.AddMember group who) = Some (table_change.AddMember group who)
+table_change_of (command.DropMember group who) = Some (table_change.DropMember group who)
+table_change_of other = None
+
 -- by what stands at the end of the path, or by its place with the i-number that is needed there
 abbrev pub at_end : Tree → (Option Content → Outcome) → Option Path → Outcome
 at_end tree comes None = refuses refusal.NoPath
@@ -210,8 +231,10 @@ outcome user (command.Link path target) tree =
     option_map_or (λ t. at_place user tree (λ place _. links t place) (path_of path.now)) (place_of target.now)
     (refuses refusal.NoPath)
 outcome user (command.AddUser who key) tree = Writes (of_table (AddUser who key) ∷ [])
+outcome user (command.SetKey who key) tree = Writes (of_table (SetKey who key) ∷ [])
 outcome user (command.AddMember group who) tree = Writes (of_table (AddMember group who) ∷ [])
 outcome user (command.DropMember group who) tree = Writes (of_table (DropMember group who) ∷ [])
+outcome user (command.Admin changes) tree = Writes (all_on_table changes.now)
 
 -- what is told of an operation, by the numbers of its changes that had no effect
 abbrev pub told_of_lost : List ℕ → Answer
@@ -228,13 +251,17 @@ has_path (command.Mkdir path) = is_some (path_of path.now)
 has_path (command.Rm path) = is_some (path_of path.now)
 has_path (command.Link path target) = is_some (path_of path.now) && is_some (place_of target.now)
 has_path (command.AddUser who key) = true
+has_path (command.SetKey who key) = true
 has_path (command.AddMember group who) = true
 has_path (command.DropMember group who) = true
+has_path (command.Admin changes) = true
 
+-- more bytes than a file may have, or more changes than an operation
 abbrev pub is_too_large : Command → Bool
 is_too_large (command.Put path content) = nat_lt FILE_SIZE (length content.now)
+is_too_large (command.Admin changes) = nat_lt MOST_CHANGES (length changes.now)
 is_too_large other = false
 
--- the path is none, or the content is too large
+-- the path is none, or there is too much
 abbrev pub early : Command → Option Refusal
 early c = if not (has_path c) then Some refusal.NoPath else if is_too_large c then Some refusal.TooLarge else None

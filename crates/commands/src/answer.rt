@@ -26,7 +26,7 @@ pub enum Refusal {
     NoLeaf,
     /// None of the user's keys that are there is the one that the table of principals has for the signature.
     NoKey,
-    /// The content has more bytes than a file may have.
+    /// The content has more bytes than a file may have, or there are more changes than an operation may have.
     TooLarge,
     /// The ledger or the journal can't be read or written.
     Device,

@@ -1,7 +1,11 @@
 //! Commands.
 
+ghost use Rattle.std.specs.Prelude.{◌≡◌};
+ghost use Rattle.commands.specs.Asked.{table_change_of};
+
 use layout::{Group, User};
 use lms_sign::PublicKey;
+use update_cert::TableChange;
 
 /// What a user asks for. A path is a word of a command line: `/a/b`, from the root directory on, or `@p:i/a/b`, from
 /// what stands at the i-number of a principal.
@@ -36,6 +40,13 @@ pub enum Command<'a> {
         /// The user's key.
         key: PublicKey,
     },
+    /// To give a user one more key, by which the user signs from then on.
+    SetKey {
+        /// Who.
+        user: User,
+        /// The key.
+        key: PublicKey,
+    },
     /// To make a user a member of a group.
     AddMember {
         /// Of which group.
@@ -50,4 +61,21 @@ pub enum Command<'a> {
         /// Who.
         user: User,
     },
+    /// To change the table of principals so, in one operation.
+    Admin(&'a [TableChange]),
+}
+
+impl<'a> Command<'a> {
+    /// The change of the table of principals that it asks for, if it asks for one alone.
+    pub fn table_change(&self) -> Option<TableChange>
+        ensures { result ≡ table_change_of self.now }
+    {
+        match self {
+            Command::AddUser { user, key } => Some(TableChange::AddUser(*user, *key)),
+            Command::SetKey { user, key } => Some(TableChange::SetKey(*user, *key)),
+            Command::AddMember { group, user } => Some(TableChange::AddMember(*group, *user)),
+            Command::DropMember { group, user } => Some(TableChange::DropMember(*group, *user)),
+            _ => None,
+        }
+    }
 }
