@@ -35,12 +35,17 @@ pub data Order : Type 0 where
   Rm : Text → Order
   Link : Text → Text → Order
   AddUser : User → Key → Order
+  SetKey : User → Key → Order
   AddMember : Group → User → Order
   DropMember : Group → User → Order
+  -- the changes that a file has, a line each
+  Admin : Text → Order
+  -- one more key is made, also where the one before has many leaves left
+  Renew : Bool → Order
   -- the commands that come on standard input, up to the first that fails where it is so
   Batch : Bool → Order
 
--- What a line says. There is no order where a file's content stands in its path's place, which no line has.
+-- What a line says. There is no order where a file's content stands in its name's place, which no line has.
 pub record Said : Type 0 where
   pub dir : Text
   pub server : Text
@@ -62,6 +67,8 @@ order_of wanted.Key = Some ShowKey
 order_of wanted.Status = Some ShowStatus
 order_of (wanted.Put path file) = Some (Put path.now file.now)
 order_of (wanted.Get path file) = Some (Get path.now file.now)
+order_of (wanted.Admin file) = Some (Admin file.now)
+order_of (wanted.Renew early) = Some (Renew early)
 order_of (wanted.Batch stops) = Some (Batch stops)
 order_of (wanted.Run (command.Ls path)) = Some (Ls path.now)
 order_of (wanted.Run (command.Cat path)) = Some (Cat path.now)
@@ -70,8 +77,10 @@ order_of (wanted.Run (command.Mkdir path)) = Some (Mkdir path.now)
 order_of (wanted.Run (command.Rm path)) = Some (Rm path.now)
 order_of (wanted.Run (command.Link path target)) = Some (Link path.now target.now)
 order_of (wanted.Run (command.AddUser user key)) = Some (AddUser user key)
+order_of (wanted.Run (command.SetKey user key)) = Some (SetKey user key)
 order_of (wanted.Run (command.AddMember group user)) = Some (AddMember group user)
 order_of (wanted.Run (command.DropMember group user)) = Some (DropMember group user)
+order_of (wanted.Run (command.Admin changes)) = None
 
 abbrev pub said : Line → Said
 said line = record {
@@ -163,12 +172,23 @@ link_in rows = do
   target ← text_in (codes "TARGET") rows
   Ok (Some (Link path target))
 
-abbrev pub adduser_in : List Row → Result (Option Order) Unread
-adduser_in rows = do
+-- a user, and a key of the user's
+abbrev pub user_key_in : List Row → Result (User × Key) Unread
+user_key_in rows = do
   user ← user_in (codes "U") rows
   hex ← text_in (codes "HEX") rows
   key ← key_of hex
-  Ok (Some (AddUser user key))
+  Ok (user, key)
+
+abbrev pub key_change_in : (User → Key → Order) → List Row → Result (Option Order) Unread
+key_change_in order rows = do
+  own ← user_key_in rows
+  Ok (Some (order own.0 own.1))
+
+abbrev pub admin_in : List Row → Result (Option Order) Unread
+admin_in rows = do
+  file ← text_in (codes "FILE") rows
+  Ok (Some (Admin file))
 
 abbrev pub member_in : List Row → Result (Group × User) Unread
 member_in rows = do
@@ -199,11 +219,14 @@ order_in name rows = if bytes_eq name (codes "key") then Ok (Some ShowKey)
     else (if bytes_eq name (codes "mkdir") then path_in Mkdir rows
     else (if bytes_eq name (codes "rm") then path_in Rm rows
     else (if bytes_eq name (codes "link") then link_in rows
-    else (if bytes_eq name (codes "adduser") then adduser_in rows
+    else (if bytes_eq name (codes "adduser") then key_change_in AddUser rows
+    else (if bytes_eq name (codes "setkey") then key_change_in SetKey rows
     else (if bytes_eq name (codes "addmember") then change_in AddMember rows
     else (if bytes_eq name (codes "dropmember") then change_in DropMember rows
+    else (if bytes_eq name (codes "admin") then admin_in rows
+    else (if bytes_eq name (codes "renew") then Ok (Some (Renew (is_set (codes "early") rows)))
     else (if bytes_eq name (codes "batch") then Ok (Some (Batch (is_set (codes "stop") rows)))
-    else Err unread.Words))))))))))))
+    else Err unread.Words)))))))))))))))
 
 abbrev pub order_met : Option (Text × List Row) → Result (Option Order) Unread
 order_met None = Err unread.Words

@@ -55,8 +55,9 @@ get_app = with_rule (path_app (codes "get")) (placed (codes "FILE"))
 abbrev pub link_app : App
 link_app = with_rule (path_app (codes "link")) (placed (codes "TARGET"))
 
-abbrev pub adduser_app : App
-adduser_app = with_rule (with_rule (new_app (codes "adduser")) (of_user (placed (codes "U")))) (placed (codes "HEX"))
+-- a command that takes a user and a key
+abbrev pub user_key_app : Text → App
+user_key_app name = with_rule (with_rule (new_app name) (of_user (placed (codes "U")))) (placed (codes "HEX"))
 
 -- a command that takes a group and a user
 abbrev pub member_app : Text → App
@@ -68,6 +69,14 @@ folder_app = with_rule (new_app (codes "init")) (placed (codes "DIR"))
 -- a folder is made: where, whose, and by which file of user 0's public key
 abbrev pub init_app : App
 init_app = with_rule (with_rule folder_app (of_user (placed (codes "USER")))) (optional (codes "SUPER_PUB"))
+
+-- a file of changes that user 0 makes
+abbrev pub admin_app : App
+admin_app = with_rule (new_app (codes "admin")) (placed (codes "FILE"))
+
+-- one more key is made
+abbrev pub renew_app : App
+renew_app = with_rule (new_app (codes "renew")) (flag (codes "early"))
 
 -- commands are read, a line each, from standard input
 abbrev pub batch_app : App
@@ -96,10 +105,11 @@ app with sub = with_subcommand app sub.top
 abbrev pub with_commands : App → App
 with_commands app = app with key_app with status_app with path_app (codes "ls") with path_app (codes "cat")
     with put_app with get_app with path_app (codes "mkdir") with path_app (codes "rm") with link_app
-    with adduser_app with member_app (codes "addmember") with member_app (codes "dropmember")
+    with user_key_app (codes "adduser") with user_key_app (codes "setkey") with member_app (codes "addmember")
+    with member_app (codes "dropmember") with admin_app
 
 abbrev pub sundr_app : App
-sundr_app = with_commands (versioned (requires_command options_app) with init_app) with batch_app
+sundr_app = with_commands (versioned (requires_command options_app) with init_app) with renew_app with batch_app
 
 -- a line of a batch: a command without options
 abbrev pub line_app : App

@@ -27,11 +27,11 @@ pub enum LineError {
 /// What is to be done.
 #[derive(Clone, Copy)]
 pub enum Wanted<'a> {
-    /// To print the own public key.
+    /// To print the own public keys.
     Key,
-    /// To print whose the folder is, how far its last operation is, and how many leaves its key has left.
+    /// To print whose the folder is, how far its last operation is, and how many leaves each key has left.
     Status,
-    /// To carry out a command; none that puts a file's content, of which a line has the name alone.
+    /// To carry out a command; none that needs a file's content, of which a line has the name alone.
     Run(Command<'a>),
     /// To put the content of a file of the system at a path.
     Put {
@@ -46,6 +46,13 @@ pub enum Wanted<'a> {
         path: &'a str,
         /// The file's name.
         file: &'a str,
+    },
+    /// To make the changes that a file of the system has, a line each, in one operation.
+    Admin(&'a str),
+    /// To make one more key, and to print what user 0 types to set it.
+    Renew {
+        /// Whether it is made also where the key before has many leaves left.
+        early: bool,
     },
     /// To carry out the commands that come on standard input, a line each.
     Batch {

@@ -4,7 +4,7 @@ ghost use Rattle.std.specs.Prelude.{◌≡◌, true, Ok, [], map, option_map, If
 ghost use Rattle.clap.specs.Words.{HasMatchesOf, app_of, fault_of, found_of, is_simple_and_free, rows_of};
 ghost use Rattle.clap.specs.Words.{subcommand_rows_of};
 ghost use Rattle.file_commands.specs.Lines.{reads, order_of, said, text_in, number_in, user_in, group_in, key_of};
-ghost use Rattle.file_commands.specs.Lines.{Get, Put, file_in, link_in, adduser_in, member_in, order_in};
+ghost use Rattle.file_commands.specs.Lines.{Get, Put, admin_in, file_in, link_in, member_in, order_in, user_key_in};
 ghost use Rattle.file_commands.specs.Lines.{command_of, is_set, line_in, order_met, IsErrorOf, IsFaultOf, IsWhy};
 ghost use Rattle.file_commands.specs.Lines.{asked, asked_new, init_in, request_in, request_of, super_key_for, work_in};
 ghost use Rattle.file_commands.specs.Words.{line_app, sundr_app};
@@ -110,13 +110,21 @@ fn link<'a>(matches: &ArgMatches<'a>) -> Result<Wanted<'a>, Unread>
     Ok(Wanted::Run(Command::Link { path, target }))
 }
 
-/// A user, and the user's key.
-fn adduser<'a>(matches: &ArgMatches<'a>) -> Result<Wanted<'a>, Unread>
-    ensures { reads order_of result ≡ adduser_in (rows_of (found_of matches.now)) }
+/// A user, and a key of the user's.
+fn user_key(matches: &ArgMatches<'_>) -> Result<(User, PublicKey), Unread>
+    ensures { result ≡ user_key_in (rows_of (found_of matches.now)) }
 {
     let user = user(matches, "U")?;
     let key = key(text(matches, "HEX")?)?;
-    Ok(Wanted::Run(Command::AddUser { user, key }))
+    Ok((user, key))
+}
+
+/// The name of a file of changes.
+fn admin<'a>(matches: &ArgMatches<'a>) -> Result<Wanted<'a>, Unread>
+    ensures { reads order_of result ≡ admin_in (rows_of (found_of matches.now)) }
+{
+    let file = text(matches, "FILE")?;
+    Ok(Wanted::Admin(file))
 }
 
 /// A group, and a user.
@@ -141,7 +149,18 @@ fn wanted<'a>(name: &str, matches: &ArgMatches<'a>) -> Result<Wanted<'a>, Unread
         "put" => return put(matches),
         "get" => return get(matches),
         "link" => return link(matches),
-        "adduser" => return adduser(matches),
+        "admin" => return admin(matches),
+        "renew" => return Ok(Wanted::Renew {
+            early: is_set(matches, "early"),
+        }),
+        "adduser" => {
+            let (user, key) = user_key(matches)?;
+            Command::AddUser { user, key }
+        }
+        "setkey" => {
+            let (user, key) = user_key(matches)?;
+            Command::SetKey { user, key }
+        }
         "ls" => Command::Ls(text(matches, "PATH")?),
         "cat" => Command::Cat(text(matches, "PATH")?),
         "mkdir" => Command::Mkdir(text(matches, "PATH")?),

@@ -2,9 +2,10 @@
 
 ghost use Rattle.std.specs.Prelude.{◌≡◌, false, codes, IfOk};
 ghost use Rattle.clap.specs.Words.{app_of, rule_of};
-ghost use Rattle.file_commands.specs.Words.{adduser_app, batch_app, flag, folder_app, get_app, init_app, key_app, line_app};
+ghost use Rattle.file_commands.specs.Words.{admin_app, batch_app, flag, folder_app, get_app, init_app, key_app, line_app};
 ghost use Rattle.file_commands.specs.Words.{link_app, member_app, of_group, of_user, option, optional, options_app, path_app, placed};
-ghost use Rattle.file_commands.specs.Words.{put_app, requires_command, status_app, sundr_app, valued, versioned, with_commands};
+ghost use Rattle.file_commands.specs.Words.{put_app, renew_app, requires_command, status_app, sundr_app, user_key_app, valued, versioned};
+ghost use Rattle.file_commands.specs.Words.{with_commands};
 
 use clap::{Arg, ArgAction, Command, value_parser};
 use std::alloc::{AllocError, Global};
@@ -66,6 +67,16 @@ const RM: Help = Help {
 const LINK: Help = Help {
     about: "Gives what stands at i-number i of principal p the name PATH",
     example: "Example: sundr --dir root --server localhost:7440 --user 0 link /alice @1:1",
+};
+
+const ADD_USER: Help = Help {
+    about: "Lists user U with a key; for user 0 alone",
+    example: "Example: sundr --dir root --server localhost:7440 --user 0 adduser 1 HEX, HEX being what `key` prints",
+};
+
+const SET_KEY: Help = Help {
+    about: "Gives user U one more key, by which U signs from then on; for user 0 alone",
+    example: "Example: sundr --dir root --server localhost:7440 --user 0 setkey 1 HEX, as `renew` prints it",
 };
 
 const ADD_MEMBER: Help = Help {
@@ -188,7 +199,9 @@ fn key_command<'a>(alloc: Global) -> Command<'a>
     ensures { app_of result ≡ key_app }
 {
     Command::new(alloc, "key")
-        .about("Prints the own public key in 112 hexadecimal digits; no server is asked")
+        .about(
+            "Prints the own public keys in 112 hexadecimal digits, the oldest first; no server is asked",
+        )
         .after_help("Example: sundr --dir alice --server localhost:7440 --user 1 key")
 }
 
@@ -197,7 +210,7 @@ fn status_command<'a>(alloc: Global) -> Command<'a>
 {
     Command::new(alloc, "status")
         .about(
-            "Prints whose DIR is, how far its last operation is, and how many leaves its key has left; no server is asked",
+            "Prints whose DIR is, how far its last operation is, and how many leaves each key has left; no server is asked",
         )
         .after_help("Example: sundr --dir alice --server localhost:7440 --user 1 status")
 }
@@ -238,14 +251,13 @@ fn link_command<'a>(alloc: Global) -> Result<Command<'a>, AllocError>
     path_command(alloc, "link", LINK)?.arg(placed(alloc, "TARGET", "`@p:i`"))
 }
 
-fn adduser_command<'a>(alloc: Global) -> Result<Command<'a>, AllocError>
-    ensures { IfOk result (λ c. app_of c ≡ adduser_app) }
+/// A command that takes a user and a key.
+fn user_key_command<'a>(alloc: Global, name: &'a str, help: Help) -> Result<Command<'a>, AllocError>
+    ensures { IfOk result (λ c. app_of c ≡ user_key_app name.entry.now) }
 {
-    Command::new(alloc, "adduser")
-        .about("Lists user U with a key; for user 0 alone")
-        .after_help(
-            "Example: sundr --dir root --server localhost:7440 --user 0 adduser 1 HEX, HEX being what `key` prints",
-        )
+    Command::new(alloc, name)
+        .about(help.about)
+        .after_help(help.example)
         .arg(user(alloc))?
         .arg(placed(
             alloc,
@@ -309,6 +321,40 @@ fn program<'a>(alloc: Global) -> Result<Command<'a>, AllocError>
     )
 }
 
+/// Changes that come in a file.
+fn admin_command<'a>(alloc: Global) -> Result<Command<'a>, AllocError>
+    ensures { IfOk result (λ c. app_of c ≡ admin_app) }
+{
+    Command::new(alloc, "admin")
+        .about(
+            "Makes the changes of FILE in one operation, a line each: at most 16 of adduser, setkey, addmember, dropmember; for user 0 alone",
+        )
+        .after_help("Example: sundr --dir root --server localhost:7440 --user 0 admin changes")
+        .arg(placed(
+            alloc,
+            "FILE",
+            "A file of this system, with words as on a command line",
+        ))
+}
+
+/// The making of one more key.
+fn renew_command<'a>(alloc: Global) -> Result<Command<'a>, AllocError>
+    ensures { IfOk result (λ c. app_of c ≡ renew_app) }
+{
+    Command::new(alloc, "renew")
+        .about(
+            "Makes one more key in DIR, and prints what user 0 types to set it, and the key's fingerprint; for users other than 0; no server is asked",
+        )
+        .after_help(
+            "Example: sundr --dir alice --server localhost:7440 --user 1 renew, before the leaves of `status` are few",
+        )
+        .arg(flag(
+            alloc,
+            "early",
+            "Also where more than 512 leaves are left: a user has at most 16 keys",
+        ))
+}
+
 /// Commands that come on standard input.
 fn batch_command<'a>(alloc: Global) -> Result<Command<'a>, AllocError>
     ensures { IfOk result (λ c. app_of c ≡ batch_app) }
@@ -341,9 +387,11 @@ fn with_commands<'a>(alloc: Global, command: Command<'a>) -> Result<Command<'a>,
         .subcommand(path_command(alloc, "mkdir", MKDIR)?)?
         .subcommand(path_command(alloc, "rm", RM)?)?
         .subcommand(link_command(alloc)?)?
-        .subcommand(adduser_command(alloc)?)?
+        .subcommand(user_key_command(alloc, "adduser", ADD_USER)?)?
+        .subcommand(user_key_command(alloc, "setkey", SET_KEY)?)?
         .subcommand(member_command(alloc, "addmember", ADD_MEMBER)?)?
-        .subcommand(member_command(alloc, "dropmember", DROP_MEMBER)?)
+        .subcommand(member_command(alloc, "dropmember", DROP_MEMBER)?)?
+        .subcommand(admin_command(alloc)?)
 }
 
 /// The words that the program takes.
@@ -351,7 +399,9 @@ pub(crate) fn command<'a>(alloc: Global) -> Result<Command<'a>, AllocError>
     ensures { IfOk result (λ c. app_of c ≡ sundr_app) }
 {
     let begun = program(alloc)?.subcommand(init_command(alloc)?)?;
-    with_commands(alloc, begun)?.subcommand(batch_command(alloc)?)
+    with_commands(alloc, begun)?
+        .subcommand(renew_command(alloc)?)?
+        .subcommand(batch_command(alloc)?)
 }
 
 /// The words that a line of a batch may have, after the program's name.

@@ -1,7 +1,7 @@
 use Rattle.std.proofs.Common.{refl, codes}
 use Rattle.std.proofs.lemmas.Result.{IfOk-weaker}
 use Rattle.clap.specs.Words.{app_of}
-use Rattle.file_commands.specs.Words.{adduser_app, get_app, key_app, link_app, member_app, path_app, put_app, status_app}
+use Rattle.file_commands.specs.Words.{admin_app, get_app, key_app, link_app, member_app, path_app, put_app, status_app, user_key_app}
 use Rattle.file_commands.proofs.CommandLemmas.{subcommand_added}
 use Rattle.file_commands.proofs.words.with_commands.Goals as goal
 
@@ -16,7 +16,9 @@ returns c =
     let seven = subcommand_added _ _ _ _ (path_app (codes "mkdir")) c.in_ok-subcommand-7.ensures six c.in_ok-path_command-3.ensures refl in
     let eight = subcommand_added _ _ _ _ (path_app (codes "rm")) c.in_ok-subcommand-8.ensures seven c.in_ok-path_command-4.ensures refl in
     let nine = subcommand_added _ _ _ _ link_app c.in_ok-subcommand-9.ensures eight c.in_ok-link_command.ensures refl in
-    let ten = subcommand_added _ _ _ _ adduser_app c.in_ok-subcommand-10.ensures nine c.in_ok-adduser_command.ensures refl in
-    let eleven = subcommand_added _ _ _ _ (member_app (codes "addmember")) c.in_ok-subcommand-11.ensures ten c.in_ok-member_command.ensures refl in
-    IfOk-weaker c.subcommand-12.result _ _ (λ m h. subcommand_added _ _ _ _ (member_app (codes "dropmember")) h eleven c.in_ok-member_command-2.ensures refl)
-    c.subcommand-12.ensures
+    let ten = subcommand_added _ _ _ _ (user_key_app (codes "adduser")) c.in_ok-subcommand-10.ensures nine c.in_ok-user_key_command.ensures refl in
+    let eleven = subcommand_added _ _ _ _ (user_key_app (codes "setkey")) c.in_ok-subcommand-11.ensures ten c.in_ok-user_key_command-2.ensures refl in
+    let twelve = subcommand_added _ _ _ _ (member_app (codes "addmember")) c.in_ok-subcommand-12.ensures eleven c.in_ok-member_command.ensures refl in
+    let thirteen = subcommand_added _ _ _ _ (member_app (codes "dropmember")) c.in_ok-subcommand-13.ensures twelve c.in_ok-member_command-2.ensures refl in
+    IfOk-weaker c.subcommand-14.result _ _ (λ m h. subcommand_added _ _ _ _ admin_app h thirteen c.in_ok-admin_command.ensures refl)
+    c.subcommand-14.ensures
