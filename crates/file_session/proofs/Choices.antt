@@ -1,14 +1,15 @@
 -- What a command comes to, from looks.
-use Rattle.std.proofs.Common.{◌≡◌, [], ◌∷◌, Option, Some, None, Result, Ok, Err, IfOk, inl, inr, ap, sym, ◌∙◌}
+use Rattle.std.proofs.Common.{◌≡◌, List, [], ◌∷◌, Option, Some, None, Result, Ok, Err, IfOk, inl, inr, ap, sym, ◌∙◌}
 use Rattle.std.specs.Prelude.{IfErr, OnErr}
 use Rattle.std.specs.Borrow.{Bor}
 use Rattle.std.specs.Option.{option_map_or}
 use Rattle.layout.specs.Types.{Bytes, Group, Key, User}
 use Rattle.directory.specs.declared.target.Target.{Target}
-use Rattle.update_cert.specs.Change.{AddUser, AddMember, DropMember, of_table}
+use Rattle.update_cert.specs.Change.{AddUser, AddMember, DropMember, SetKey, of_table}
+use Rattle.update_cert.specs.declared.change.TableChange.{TableChange}
 use Rattle.update_cert.specs.World.{Tree}
 use Rattle.client_verify.specs.State.{State}
-use Rattle.commands.specs.Asked.{Outcome, Tells, Writes, at_end, at_place, links, lists, makes, outcome, puts, reads, refuses, removes}
+use Rattle.commands.specs.Asked.{Outcome, Tells, Writes, all_on_table, at_end, at_place, links, lists, makes, outcome, puts, reads, refuses, removes}
 use Rattle.commands.specs.Paths.{path_of, place_of}
 use Rattle.commands.specs.declared.command.Command.{Command}
 use Rattle.commands.specs.declared.command.Command.TheVariants as command
@@ -72,6 +73,14 @@ of_add_member u who group c tree is = ap (λ (x : Command). outcome u x tree) is
 pub of_drop_member : (u who : User) (group : Group) (c : Command) (tree : Tree) → c ≡ command.DropMember group who → outcome u c tree ≡ Writes (of_table (DropMember group who) ∷ [])
 unfolding outcome
 of_drop_member u who group c tree is = ap (λ (x : Command). outcome u x tree) is
+
+pub of_set_key : (u who : User) (c : Command) (key : Key) (tree : Tree) → c ≡ command.SetKey who key → outcome u c tree ≡ Writes (of_table (SetKey who key) ∷ [])
+unfolding outcome
+of_set_key u who c key tree is = ap (λ (x : Command). outcome u x tree) is
+
+pub of_admin : (u : User) (c : Command) (changes : Bor (List TableChange)) (tree : Tree) → c ≡ command.Admin changes → outcome u c tree ≡ Writes (all_on_table changes.now)
+unfolding outcome
+of_admin u c changes tree is = ap (λ (x : Command). outcome u x tree) is
 
 looked_as : {T X : Type 0} (answers : Answering T) (a b : At T) (r : Result X Stop) (comes other : Tree → Outcome) (o : Outcome) → ((tree : Tree) → other tree ≡ comes tree) → LookedFor answers a b comes o r → LookedFor answers a b other o r
 looked_as answers a b (Ok x) comes other o same h = looked_so _ h (λ tree is. same tree ∙ is)

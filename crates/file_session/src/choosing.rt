@@ -16,7 +16,7 @@ ghost use Rattle.file_session.specs.Parts.{CanBegin, IsPlanOf, IsSmall, Planned,
 ghost use Rattle.file_session.specs.Went.{IsSeenIn, Looked, point};
 
 use crate::conversation::Conversation;
-use crate::planning::{Plan, or_stop, plan_of_table, refused};
+use crate::planning::{Plan, or_stop, plan_of_all, plan_of_table, refused};
 use crate::site::{Site, link_at, make_at, put_at, remove_at};
 use crate::stop::Stop;
 use client_tree::Question;
@@ -207,12 +207,16 @@ impl<L: Device, J: Device, T: Transport<A>, A: Allocator + Copy> Conversation<L,
             Command::AddUser { user, key } => {
                 or_stop(plan_of_table(self.alloc, TableChange::AddUser(*user, *key)))
             }
+            Command::SetKey { user, key } => {
+                or_stop(plan_of_table(self.alloc, TableChange::SetKey(*user, *key)))
+            }
             Command::AddMember { group, user } => {
                 or_stop(plan_of_table(self.alloc, TableChange::AddMember(*group, *user)))
             }
             Command::DropMember { group, user } => {
                 or_stop(plan_of_table(self.alloc, TableChange::DropMember(*group, *user)))
             }
+            Command::Admin(changes) => or_stop(plan_of_all(self.alloc, changes)),
         }
     }
 }

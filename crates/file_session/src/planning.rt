@@ -1,12 +1,13 @@
 //! The changes of an operation, and the texts that are stored for it.
 
-ghost use Rattle.std.specs.Prelude.{◌≡◌, ◌∷◌, [], IfErr, IfOk, OnErr, Some, true};
+ghost use Rattle.std.specs.Prelude.{◌≡◌, ◌≤◌, ◌∷◌, [], IfErr, IfOk, OnErr, Some, length, map, true};
 ghost use Rattle.directory.specs.Name.{is_name};
 ghost use Rattle.update_cert.specs.Change.{Change as AnyChange, of_table, table_action_of};
 ghost use Rattle.update_cert.specs.World.{Content, File};
 ghost use Rattle.client_verify.specs.Laid.{is_laid};
 ghost use Rattle.commands.specs.Answers.{Refused};
-ghost use Rattle.commands.specs.Asked.{Outcome, Tells, Writes, makes_named, outcome_of};
+ghost use Rattle.commands.specs.Asked.{Outcome, Tells, Writes, all_on_table, makes_named, outcome_of};
+ghost use Rattle.update_cert.specs.declared.cert.TheConstants.{MOST_CHANGES};
 ghost use Rattle.commands.specs.Names.{IsNamedCourse};
 ghost use Rattle.file_session.specs.Declaring.{declared, texts_for};
 ghost use Rattle.file_session.specs.Parts.{CanBegin, IsChange, IsOf, IsPlanOf, IsSmall, bytes_of, content_of, makes_at};
@@ -71,6 +72,36 @@ pub(crate) fn plan_of_table<A: Allocator + Copy>(
         → texts_for wanted.action ≡ [] → IfOk result (IsPlanOf (Writes (wanted ∷ []))) }
 {
     one(alloc, Change::of_table(change))
+}
+
+/// These changes of the table of principals, in memory of their own.
+fn changes_of_table<A: Allocator + Copy>(
+    alloc: A,
+    changes: &[TableChange],
+) -> Result<Vec<Change<A>, A>, Memory>
+    ensures { IfOk result (λ all. all.items ≡ map (λ c. of_table (table_action_of c)) changes.now) }
+{
+    let mut all = Vec::new(alloc);
+    for change in changes {
+        all.push(Change::of_table(*change))?;
+    }
+    Ok(all)
+}
+
+/// An operation of these changes of the table of principals.
+pub(crate) fn plan_of_all<A: Allocator + Copy>(
+    alloc: A,
+    changes: &[TableChange],
+) -> Result<Plan<A>, Memory>
+    requires { length changes.now ≤ MOST_CHANGES }
+    ensures can_begin { IfOk result CanBegin }
+    ensures plan { IfOk result (IsPlanOf (Writes (all_on_table changes.now))) }
+{
+    let all = changes_of_table(alloc, changes)?;
+    Ok(Plan::Writes(Operation {
+        changes: all,
+        texts: Vec::new(alloc),
+    }))
 }
 
 /// What is put in the place of a file.

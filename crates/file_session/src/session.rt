@@ -24,6 +24,7 @@ use layout::{User, let_go};
 use leaf_ledger::Device;
 use std::alloc::Allocator;
 use transport::Transport;
+use update_cert::MOST_CHANGES;
 
 /// A client over a transport, for commands of its user.
 pub struct Session<L: Device, J: Device, T, A: Allocator> {
@@ -80,16 +81,18 @@ fn has_path(command: &Command<'_>) -> bool
         }
         Command::Put { path, .. } => path_of(path).is_some(),
         Command::Link { path, target } => path_of(path).is_some() && place_of(target).is_some(),
-        Command::AddUser { .. } | Command::AddMember { .. } | Command::DropMember { .. } => true,
+        Command::AddUser { .. } | Command::SetKey { .. } => true,
+        Command::AddMember { .. } | Command::DropMember { .. } | Command::Admin(_) => true,
     }
 }
 
-/// Whether the content of a command has more bytes than a file may have.
+/// Whether the content of a command has more bytes than a file may have, or a command more changes than an operation.
 fn is_too_large(command: &Command<'_>) -> bool
     ensures { result ≡ is_too_large command.now }
 {
     match command {
         Command::Put { content, .. } => content.len() > FILE_SIZE as usize,
+        Command::Admin(changes) => changes.len() > MOST_CHANGES,
         _ => false,
     }
 }

@@ -1,7 +1,7 @@
 use Rattle.std.proofs.Common.{[], ◌∷◌, refl}
-use Rattle.update_cert.specs.Change.{AddUser, AddMember, DropMember, of_table}
-use Rattle.commands.specs.Asked.{Writes}
-use Rattle.file_session.proofs.Choices.{of_add_member, of_add_user, of_cat, of_drop_member, of_link, of_link_not, of_ls, of_mkdir, of_put, of_rm, on_err, planned_as, planned_by, planned_now}
+use Rattle.update_cert.specs.Change.{AddUser, AddMember, DropMember, SetKey, of_table}
+use Rattle.commands.specs.Asked.{Writes, all_on_table}
+use Rattle.file_session.proofs.Choices.{of_add_member, of_add_user, of_admin, of_cat, of_drop_member, of_link, of_link_not, of_ls, of_mkdir, of_put, of_rm, of_set_key, on_err, planned_as, planned_by, planned_now}
 use Rattle.file_session.proofs.Looks.{quiet}
 use Rattle.file_session.proofs.Runs.{went_none}
 use Rattle.file_session.proofs.conversation.Conversation.plan.Goals as goal
@@ -36,6 +36,13 @@ returns-in-AddUser-clause-planned g c =
     planned_by _ (Writes (of_table (AddUser c.in-AddUser.user c.in-AddUser.key) ∷ [])) c.or_stop.result (quiet _ (went_none _) (λ tree. of_add_user c.args.user c.in-AddUser.user _ c.in-AddUser.key tree c.in-AddUser.is))
     (s.plan (Writes ((of_table (AddUser c.in-AddUser.user c.in-AddUser.key)) ∷ [])) (e.plan (of_table (AddUser c.in-AddUser.user c.in-AddUser.key)) refl refl)) (s.can_begin e.can_begin) s.memory (on_err _ tt)
 
+pub returns-in-SetKey-clause-planned : goal.returns-in-SetKey-clause-planned
+returns-in-SetKey-clause-planned g c =
+    let e = c.plan_of_table-in-SetKey.ensures in
+    let s = c.or_stop-in-SetKey.ensures in
+    planned_by _ (Writes (of_table (SetKey c.in-SetKey.user c.in-SetKey.key) ∷ [])) c.or_stop-in-SetKey.result (quiet _ (went_none _) (λ tree. of_set_key c.args.user c.in-SetKey.user _ c.in-SetKey.key tree c.in-SetKey.is))
+    (s.plan (Writes ((of_table (SetKey c.in-SetKey.user c.in-SetKey.key)) ∷ [])) (e.plan (of_table (SetKey c.in-SetKey.user c.in-SetKey.key)) refl refl)) (s.can_begin e.can_begin) s.memory (on_err _ tt)
+
 pub returns-in-AddMember-clause-planned : goal.returns-in-AddMember-clause-planned
 returns-in-AddMember-clause-planned g c =
     let e = c.plan_of_table-in-AddMember.ensures in
@@ -49,3 +56,11 @@ returns-in-DropMember-clause-planned g c =
     let s = c.or_stop-in-DropMember.ensures in
     planned_by _ (Writes (of_table (DropMember c.in-DropMember.group c.in-DropMember.user) ∷ [])) c.or_stop-in-DropMember.result (quiet _ (went_none _) (λ tree. of_drop_member c.args.user c.in-DropMember.user c.in-DropMember.group _ tree c.in-DropMember.is))
     (s.plan (Writes ((of_table (DropMember c.in-DropMember.group c.in-DropMember.user)) ∷ [])) (e.plan (of_table (DropMember c.in-DropMember.group c.in-DropMember.user)) refl refl)) (s.can_begin e.can_begin) s.memory (on_err _ tt)
+
+pub returns-in-Admin-clause-planned : goal.returns-in-Admin-clause-planned
+returns-in-Admin-clause-planned g c =
+    let e = c.plan_of_all.ensures in
+    let s = c.or_stop-in-Admin.ensures in
+    let wanted = Writes (all_on_table c.in-Admin.changes.now) in
+    planned_by _ wanted c.or_stop-in-Admin.result (quiet _ (went_none _) (λ tree. of_admin c.args.user _ c.in-Admin.changes tree c.in-Admin.is))
+    (s.plan wanted e.plan) (s.can_begin e.can_begin) s.memory (on_err _ tt)
