@@ -3,8 +3,11 @@
 use clap::error::ErrorKind;
 use commands::Command;
 use file_commands::{Line, LineError, NewFolder, Request, Wanted};
+use layout::{Group, User};
+use lms_sign::PublicKey;
 use std::alloc::Global;
 use std::process::Abort;
+use update_cert::TableChange;
 
 /// The words before a command of user 7.
 const OPTIONS: &str = "sundr --dir d --server a:1 --user 7";
@@ -32,6 +35,12 @@ fn is_of_user_7(line: &Line<'_>) -> bool {
 const DIGITS: &str = "0000000600000003000102030405060708090a0b0c0d0e0f\
     101112131415161718191a1b1c1d1e1f202122232425262728292a2b2C2D2E2F";
 
+/// Whether this is user 5 with the key of these digits.
+fn is_user_5(user: User, key: &PublicKey) -> bool {
+    let bytes = key.as_bytes();
+    user.get() == 5 && bytes[8] == 0 && bytes[9] == 1 && bytes[55] == 0x2f
+}
+
 /// The number of the command, by its place below, where its words are read.
 fn command_read(command: &Command<'_>) -> u8 {
     match command {
@@ -45,14 +54,8 @@ fn command_read(command: &Command<'_>) -> u8 {
         } => 7,
         Command::AddMember { group, user } if group.get() == 64 && user.get() == 63 => 8,
         Command::DropMember { group, user } if group.get() == 95 && user.get() == 0 => 9,
-        Command::AddUser { user, key } => {
-            let bytes = key.as_bytes();
-            if user.get() == 5 && bytes[8] == 0 && bytes[9] == 1 && bytes[55] == 0x2f {
-                10
-            } else {
-                0
-            }
-        }
+        Command::AddUser { user, key } if is_user_5(*user, key) => 10,
+        Command::SetKey { user, key } if is_user_5(*user, key) => 15,
         _ => 0,
     }
 }
@@ -73,7 +76,10 @@ fn number_of(wanted: &Wanted<'_>) -> u8 {
             file: "f",
         } => 13,
         Wanted::Status => 14,
-        Wanted::Put { .. } | Wanted::Get { .. } => 0,
+        Wanted::Admin("f") => 16,
+        Wanted::Renew { early: false } => 17,
+        Wanted::Renew { early: true } => 18,
+        Wanted::Put { .. } | Wanted::Get { .. } | Wanted::Admin(_) => 0,
     }
 }
 
@@ -114,6 +120,11 @@ fn lines_of_commands(rt: HostRuntime) {
     assert!(rt; reads(&rt, alloc, "batch --stop") == 12);
     assert!(rt; reads(&rt, alloc, "get /p f") == 13);
     assert!(rt; reads(&rt, alloc, "status") == 14);
+    let setkey = format!(in alloc; "setkey 5 {DIGITS}").expect(&rt, "memory");
+    assert!(rt; reads(&rt, alloc, &setkey) == 15);
+    assert!(rt; reads(&rt, alloc, "admin f") == 16);
+    assert!(rt; reads(&rt, alloc, "renew") == 17);
+    assert!(rt; reads(&rt, alloc, "renew --early") == 18);
 }
 
 /// The number of what the words of a line of a batch want; 0 where they aren't read.
@@ -154,7 +165,8 @@ fn lines_of_a_batch(rt: HostRuntime) {
     }
     assert!(rt; reads_alone(&rt, alloc, "get /p f") == 13);
     assert!(rt; reads_alone(&rt, alloc, "status") == 14);
-    for command in ["", "batch", "batch --stop", "--user 7 ls /p", "ls"] {
+    assert!(rt; reads_alone(&rt, alloc, "admin f") == 16);
+    for command in ["", "batch", "batch --stop", "renew", "--user 7 ls /p", "ls"] {
         assert!(rt; reads_alone(&rt, alloc, command) == 0);
     }
 }
@@ -240,6 +252,9 @@ fn refuses_lines(rt: HostRuntime) {
     assert!(rt; has_fault(&rt, alloc, NO_SERVER, no_argument));
     assert!(rt; has_fault_behind(&rt, alloc, "put /p", no_argument));
     assert!(rt; has_fault_behind(&rt, alloc, "adduser 5 0000000600000003", None));
+    assert!(rt; has_fault_behind(&rt, alloc, "setkey 5 0000000600000003", None));
+    assert!(rt; has_fault_behind(&rt, alloc, "setkey 64 00", no_value));
+    assert!(rt; has_fault_behind(&rt, alloc, "admin", no_argument));
     assert!(rt; has_fault(&rt, alloc, "sundr init d 64 f", no_value));
     assert!(rt; has_fault(&rt, alloc, "sundr init d", no_argument));
 }
@@ -271,4 +286,62 @@ fn tells_help(rt: HostRuntime) {
     assert!(rt; has_fault(&rt, rt.alloc(), "sundr --version", version));
     assert!(rt; has_fault(&rt, rt.alloc(), "sundr put --help", help));
     assert!(rt; has_fault(&rt, rt.alloc(), "sundr --help", help));
+}
+
+/// The key of these digits.
+fn key(rt: &impl Abort, alloc: Global) -> PublicKey {
+    let text = format!(in alloc; "sundr adduser 5 {DIGITS}").expect(rt, "memory");
+    let words = words_of(rt, alloc, &text);
+    let key = match &Wanted::read(alloc, &words) {
+        Ok(Wanted::Run(Command::AddUser { key, .. })) => Some(*key),
+        _ => None,
+    };
+    key.expect(rt, "a key")
+}
+
+/// The number of a change of the table: 1 and 2 of user 5 with the key of these digits, 3 and 4 of user 63 in group 64.
+fn number_of_change(change: &TableChange) -> u8 {
+    match change {
+        TableChange::AddUser(user, key) if is_user_5(*user, key) => 1,
+        TableChange::SetKey(user, key) if is_user_5(*user, key) => 2,
+        TableChange::AddMember(group, user) if group.get() == 64 && user.get() == 63 => 3,
+        TableChange::DropMember(group, user) if group.get() == 64 && user.get() == 63 => 4,
+        _ => 9,
+    }
+}
+
+/// The number of the one change that a command asks for; 0 where it asks for none or for several.
+fn number_asked(command: &Command<'_>) -> u8 {
+    match &command.table_change() {
+        Some(change) => number_of_change(change),
+        None => 0,
+    }
+}
+
+#[test]
+fn changes_of_the_table(rt: HostRuntime) {
+    let key = key(&rt, rt.alloc());
+    let user = User::new(5).expect(&rt, "a user");
+    let member = User::new(63).expect(&rt, "a user");
+    let group = Group::new(64).expect(&rt, "a group");
+    let added = Command::AddUser { user, key };
+    let set = Command::SetKey { user, key };
+    let joined = Command::AddMember {
+        group,
+        user: member,
+    };
+    let dropped = Command::DropMember {
+        group,
+        user: member,
+    };
+    assert!(rt; number_asked(&added) == 1);
+    assert!(rt; number_asked(&set) == 2);
+    assert!(rt; number_asked(&joined) == 3);
+    assert!(rt; number_asked(&dropped) == 4);
+    assert!(rt; number_asked(&Command::Ls("/")) == 0);
+    let several = [
+        TableChange::SetKey(user, key),
+        TableChange::DropMember(group, member),
+    ];
+    assert!(rt; number_asked(&Command::Admin(&several)) == 0);
 }

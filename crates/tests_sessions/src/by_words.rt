@@ -192,6 +192,27 @@ const GROUPS: &str = "\
 0 ls / -> 0
 ";
 
+/// Keys that are set: of a user that is listed, by user 0. The last one counts, also where it isn't the user's own.
+const KEYS: &str = "\
+0 put /f FILE < hello -> 0 done|
+0 setkey 1 KEY1 -> 1 lost 1|
+0 adduser 1 KEY2 -> 0 done|
+1 cat /f -> 3 declined 3|
+1 cat /f -> 3 declined 3|
+0 setkey 1 KEY1 -> 0 done|
+1 cat /f -> 0 resumed 1|hello
+1 cat /f -> 0 hello
+1 setkey 1 KEY2 -> 1 lost 1|
+0 setkey 0 KEY2 -> 1 lost 1|
+0 setkey 1 KEY1 -> 0 done|
+1 cat /f -> 0 hello
+0 setkey 1 KEY2 -> 0 done|
+1 put /f FILE < mine -> 3 declined 3|
+0 setkey 1 KEY1 -> 0 done|
+1 cat /f -> 0 resumed 7|hello
+0 cat /f -> 0 hello
+";
+
 #[test]
 fn commands_of_one(rt: HostRuntime) {
     let rt = (rt, Here);
@@ -203,7 +224,7 @@ fn commands_of_one(rt: HostRuntime) {
 #[test]
 fn commands_of_several(rt: HostRuntime) {
     let rt = (rt, Here);
-    for table in [USERS, GROUPS] {
+    for table in [USERS, GROUPS, KEYS] {
         all_end_in_town(&rt, 3, table);
     }
 }

@@ -55,7 +55,8 @@ fn run_line<'a, T: Transport<Global>>(
             &Command::Cat(path),
             transport,
         ),
-        Wanted::Key | Wanted::Status | Wanted::Batch { .. } => rt.fail("no command over a server"),
+        Wanted::Key | Wanted::Status | Wanted::Renew { .. } => rt.fail("no command over a server"),
+        Wanted::Batch { .. } | Wanted::Admin(_) => rt.fail("several commands"),
     }
 }
 
