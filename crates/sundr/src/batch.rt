@@ -1,13 +1,12 @@
 //! Commands that come on standard input, a line each.
 
-use crate::folder::{
-    check_folder, check_place, check_target, lock_ledger, read_blocks, read_content, read_keys,
-};
+use crate::admin::{NoChanges, read_changes};
+use crate::folder::{check_target, read_blocks, read_content, read_keys};
 use crate::hindrance::Hindrance;
 use crate::reaching::{Reach, Server};
 use crate::standing::read_standing;
 use crate::{
-    Beside, Outcome, OwnClient, OwnSession, WORDS, answer, end, into_file, open_client,
+    Beside, Opened, Outcome, OwnClient, OwnSession, WORDS, answer, end, into_file, lock_and_open,
     own_key_digits, parted, print_with_reason, refuse, session_of, tell, tell_leaves,
 };
 use commands::{Answer, Command, Refusal};
@@ -23,7 +22,10 @@ use std::thread::Threads;
 const PROGRAM: &str = "sundr";
 
 /// The words that a line is read of.
-fn with_program<'a>(alloc: Global, words: &'a [String]) -> Result<Vec<&'a str>, AllocError> {
+pub(crate) fn with_program<'a>(
+    alloc: Global,
+    words: &'a [String],
+) -> Result<Vec<&'a str>, AllocError> {
     let mut all = Vec::new(alloc);
     all.push(PROGRAM)?;
     for word in words {
@@ -59,7 +61,7 @@ fn get<H: Net<Stream = TcpStream>>(
     into_file(rt, answer, file)
 }
 
-/// Does what a line of a batch wants; a batch is none.
+/// Does what a line of a batch wants; a batch and a renewal are none.
 fn obey<H: Net<Stream = TcpStream> + Threads + Sync>(
     rt: &HostRuntime,
     server: &Server<'_, H>,
@@ -70,7 +72,12 @@ fn obey<H: Net<Stream = TcpStream> + Threads + Sync>(
     let answer = match wanted {
         Wanted::Key => return Ok(Outcome::Key(own_key_digits(rt, server.host(), line)?)),
         Wanted::Status => return Ok(Outcome::Status(read_standing(rt, server.host(), line)?)),
-        Wanted::Batch { .. } => return Ok(Outcome::Ended(WORDS)),
+        Wanted::Batch { .. } | Wanted::Renew { .. } => return Ok(Outcome::Ended(WORDS)),
+        Wanted::Admin(file) => match read_changes(rt, file) {
+            Ok(changes) => answer(rt, session, &Command::Admin(&changes)),
+            Err(NoChanges::Line(status)) => return Ok(Outcome::Ended(status)),
+            Err(NoChanges::Hindered(hindrance)) => return Err(hindrance),
+        },
         Wanted::Run(command) => answer(rt, session, command),
         Wanted::Put { path, file } => put(rt, session, path, file)?,
         Wanted::Get { path, file } => get(rt, session, path, file)?,
@@ -97,12 +104,12 @@ fn tells_cut(answer: &Answer<Global>) -> bool {
 fn is_cut(outcome: &Outcome) -> bool {
     match outcome {
         Outcome::Answer(answer, _) => tells_cut(answer),
-        Outcome::Key(_) | Outcome::Status(_) | Outcome::Ended(_) => false,
+        Outcome::Key(_) | Outcome::Status(_) | Outcome::Renewed(_) | Outcome::Ended(_) => false,
     }
 }
 
 /// The words of a line, or the status of one whose words are at fault, of which is told.
-fn words_of(rt: &HostRuntime, text: &str) -> Result<Vec<String>, u8> {
+pub(crate) fn words_of(rt: &HostRuntime, text: &str) -> Result<Vec<String>, u8> {
     match split_words(rt.alloc(), text) {
         Ok(words) => Ok(words),
         Err(error) => {
@@ -254,12 +261,11 @@ pub(crate) fn carry_out_batch<H: Net<Stream = TcpStream> + Threads + Sync>(
     line: &Line<'_>,
     stops: bool,
 ) -> Result<u8, Hindrance> {
-    let keys = read_keys(rt, line.dir)?;
-    check_folder(rt, line.dir, line.user)?;
-    let lock = lock_ledger(rt, line.dir)?;
-    check_place(rt, line.dir, &lock, line.moved)?;
-    let client = open_client(rt, host, line, &keys)?;
+    let keys = read_keys(rt, line.dir, line.user)?;
+    let Opened { client, locks } = lock_and_open(rt, host, line, &keys)?;
     let reach = Cell::new(Reach::Untried);
     let server = Server::new(host, line.server, &reach);
-    Ok(carry_out_all(rt, &server, line, client, stops))
+    let status = carry_out_all(rt, &server, line, client, stops);
+    let_go(locks);
+    Ok(status)
 }

@@ -1,4 +1,4 @@
-//! What a user's folder has: the keys, the user's number, and the files of the client's ledger and journal; and the
+//! What a user's folder has: the keys, the user's number, and the files of the client's ledgers and journal; and the
 //! file that is put.
 
 use crate::hindrance::{FileFault, FolderFile, Hindrance};
@@ -6,7 +6,7 @@ use commands::Refusal;
 use drawn_key::{LEDGER_SIZE, kept_key};
 use itable::FILE_SIZE;
 use kept_blocks::{KeptBlocks, MOST_BLOCKS, MOST_BYTES};
-use layout::{Memory, Text, User};
+use layout::{Memory, Text, User, let_go};
 use leaf_ledger::{FileDevice, MemoryDevice};
 use lms_sign::{ID_SIZE, KEPT_SIZE, KEY_SIZE, PrivateKey, PublicKey, SEED_SIZE};
 use std::alloc::{AllocError, Global};
@@ -17,17 +17,17 @@ use std::os::unix::fs::{MetadataExt, OpenOptionsExt};
 /// How much is read of the file of a user's number: more than a number and a newline have.
 const USER_SIZE: u64 = 8;
 
+/// The file of a ledger.
+const LEDGER: &str = "ledger";
+
 /// The file of the keys of the leaves, so that a key need not be drawn each time.
 const LEAVES: &str = "leaves";
 
-/// What that file is called until it is whole.
-const LEAVES_BESIDE: &str = "leaves.new";
+/// How many keys a user has at most.
+pub(crate) const MOST_KEYS: u8 = 16;
 
 /// The file of blocks that were got or stored before, so that they need not be asked for again.
 const BLOCKS: &str = "blocks";
-
-/// What that file is called until it is whole.
-const BLOCKS_BESIDE: &str = "blocks.new";
 
 /// How many bytes it has at most: a tag and a count; of each block its digest, its size and its bytes.
 const BLOCKS_SIZE: usize = 6 + MOST_BLOCKS * (34 + MOST_BYTES);
@@ -38,8 +38,8 @@ const PLACE: &str = "place";
 /// What that file is called until it is whole.
 const PLACE_BESIDE: &str = "place.new";
 
-/// How much is read of it: more than four numbers have.
-const PLACE_SIZE: u64 = 128;
+/// How much is read of it: more than two numbers of the folder and two of each ledger have.
+const PLACE_SIZE: u64 = 1024;
 
 /// The mode of a file that its owner alone reads and writes.
 pub(crate) const OWNERS_ALONE: u32 = 0o600;
@@ -47,11 +47,18 @@ pub(crate) const OWNERS_ALONE: u32 = 0o600;
 /// What a file's mode has where others than its owner may use it.
 const FOR_OTHERS: u32 = 0o077;
 
-/// What a user's own key is drawn from, and user 0's public key.
+/// What a key is drawn from, and which of the user's keys it is.
 #[derive(Clone, Copy)]
-pub(crate) struct Keys {
+pub(crate) struct Seed {
+    pub(crate) number: u8,
     pub(crate) seed: [u8; SEED_SIZE],
     pub(crate) id: [u8; ID_SIZE],
+}
+
+/// What a user's own keys are drawn from, the oldest first, and user 0's public key.
+#[derive(Drop)]
+pub(crate) struct Keys {
+    pub(crate) seeds: Vec<Seed>,
     pub(crate) pinned: PublicKey,
 }
 
@@ -91,7 +98,16 @@ fn path_in(alloc: Global, folder: &str, name: &str) -> Result<String, AllocError
 
 /// The path of a file of a user's folder.
 pub(crate) fn path_of(alloc: Global, folder: &str, file: FolderFile) -> Result<String, AllocError> {
-    path_in(alloc, folder, file.name())
+    format!(in alloc; "{folder}/{file}")
+}
+
+/// The name of a file that the key of a number has beside its seed.
+fn name_of(alloc: Global, name: &str, number: u8) -> Result<String, AllocError> {
+    if number == 0 {
+        format!(in alloc; "{name}")
+    } else {
+        format!(in alloc; "{name}.{number}")
+    }
 }
 
 /// Reads the last bytes of a file: none are to follow them.
@@ -103,33 +119,65 @@ fn read_last(file: &mut File, bytes: &mut [u8]) -> Option<()> {
     }
 }
 
-/// What a fault of the system at the seed is told as.
-fn seed_hindrance(fault: &io::Error) -> Hindrance {
-    key_hindrance(FolderFile::Seed, FileFault::NoSeed, fault)
+/// What a fault of the system at a seed is told as.
+fn seed_hindrance(number: u8, fault: &io::Error) -> Hindrance {
+    key_hindrance(FolderFile::Seed(number), FileFault::NoSeed, fault)
 }
 
-/// The file of the seed. One that others than its owner may use is refused.
-fn open_seed(rt: &HostRuntime, folder: &str) -> Result<File, Hindrance> {
-    let path = path_of(rt.alloc(), folder, FolderFile::Seed)?;
-    let file = File::open(rt, &path).map_err(|fault| seed_hindrance(&fault))?;
-    let found = file.metadata().map_err(|fault| seed_hindrance(&fault))?;
+/// The file of a seed, if there is one. One that others than its owner may use is refused.
+fn open_seed(rt: &HostRuntime, folder: &str, number: u8) -> Result<Option<File>, Hindrance> {
+    let path = path_of(rt.alloc(), folder, FolderFile::Seed(number))?;
+    let file = match File::open(rt, &path) {
+        Ok(file) => file,
+        Err(fault) if fault.kind() == ErrorKind::NotFound => return Ok(None),
+        Err(fault) => return Err(seed_hindrance(number, &fault)),
+    };
+    let found = file
+        .metadata()
+        .map_err(|fault| seed_hindrance(number, &fault))?;
     if found.mode() & FOR_OTHERS != 0 {
-        return Err(Hindrance::NoKeys(FolderFile::Seed, FileFault::TooOpen));
+        return Err(Hindrance::NoKeys(FolderFile::Seed(number), FileFault::TooOpen));
     }
-    Ok(file)
+    Ok(Some(file))
 }
 
-/// The seed and the identifier in a user's folder.
-pub(crate) fn read_seed(
+/// The seed and the identifier of the key of a number in a user's folder, if they are there.
+fn read_seed(rt: &HostRuntime, folder: &str, number: u8) -> Result<Option<Seed>, Hindrance> {
+    let (mut seed, mut id) = ([0; SEED_SIZE], [0; ID_SIZE]);
+    let Some(mut file) = open_seed(rt, folder, number)? else {
+        return Ok(None);
+    };
+    file.read_exact(&mut seed)
+        .map_err(|fault| seed_hindrance(number, &fault))?;
+    read_last(&mut file, &mut id).ok_or(Hindrance::NoKeys(
+        FolderFile::Seed(number),
+        FileFault::NoSeed,
+    ))?;
+    Ok(Some(Seed { number, seed, id }))
+}
+
+/// How many seeds of a user's folder are read: user 0 has one key for good.
+fn most_seeds(user: User) -> u8 {
+    if user.get() == 0 { 1 } else { MOST_KEYS }
+}
+
+/// The seeds of a user's keys, the oldest first, up to the first that isn't there.
+pub(crate) fn read_seeds(
     rt: &HostRuntime,
     folder: &str,
-) -> Result<([u8; SEED_SIZE], [u8; ID_SIZE]), Hindrance> {
-    let (mut seed, mut id) = ([0; SEED_SIZE], [0; ID_SIZE]);
-    let mut file = open_seed(rt, folder)?;
-    file.read_exact(&mut seed)
-        .map_err(|fault| seed_hindrance(&fault))?;
-    read_last(&mut file, &mut id).ok_or(Hindrance::NoKeys(FolderFile::Seed, FileFault::NoSeed))?;
-    Ok((seed, id))
+    user: User,
+) -> Result<Vec<Seed>, Hindrance> {
+    let mut seeds = Vec::new(rt.alloc());
+    for number in 0..most_seeds(user) {
+        match read_seed(rt, folder, number)? {
+            Some(seed) => seeds.push(seed)?,
+            None => break,
+        }
+    }
+    if seeds.is_empty() {
+        return Err(Hindrance::NoKeys(FolderFile::Seed(0), FileFault::Unmade));
+    }
+    Ok(seeds)
 }
 
 /// What is told of what isn't user 0's public key.
@@ -151,35 +199,59 @@ fn read_pinned(rt: &HostRuntime, folder: &str) -> Result<PublicKey, Hindrance> {
 }
 
 /// What a user's folder has of keys.
-pub(crate) fn read_keys(rt: &HostRuntime, folder: &str) -> Result<Keys, Hindrance> {
-    let (seed, id) = read_seed(rt, folder)?;
+pub(crate) fn read_keys(rt: &HostRuntime, folder: &str, user: User) -> Result<Keys, Hindrance> {
+    let seeds = read_seeds(rt, folder, user)?;
     let pinned = read_pinned(rt, folder)?;
-    Ok(Keys { seed, id, pinned })
+    Ok(Keys { seeds, pinned })
 }
 
-/// The bytes of a file of a folder, if it can be read and has just so many.
-fn read_sized(rt: &HostRuntime, folder: &str, name: &str, size: usize) -> Option<Vec<u8>> {
-    let path = path_in(rt.alloc(), folder, name).ok()?;
+/// Refuses the ledger of a seed that has something, and isn't a whole one of its key.
+pub(crate) fn check_ledger(
+    number: u8,
+    ledger: &[u8],
+    key: &PrivateKey<Global>,
+) -> Result<(), Hindrance> {
+    let is_its = ledger.len() == LEDGER_SIZE && ledger.starts_with(key.public().as_bytes());
+    if ledger.is_empty() || is_its {
+        return Ok(());
+    }
+    Err(Hindrance::OfFile(
+        Refusal::Foreign,
+        FolderFile::Ledger(number),
+        FileFault::OfOtherSeed,
+    ))
+}
+
+/// The bytes of a file of a key beside its seed, if it can be read and has just so many.
+fn read_sized(
+    rt: &HostRuntime,
+    folder: &str,
+    name: &str,
+    number: u8,
+    size: usize,
+) -> Option<Vec<u8>> {
+    let name = name_of(rt.alloc(), name, number).ok()?;
+    let path = path_in(rt.alloc(), folder, &name).ok()?;
     let mut bytes = vec![in rt.alloc(); 0u8; size].ok()?;
     let mut file = File::open(rt, &path).ok()?;
     read_last(&mut file, &mut bytes)?;
     Some(bytes)
 }
 
-/// The own key, if it can be made of what was kept of its leaves: it has to be the key of the ledger, and the next leaf
-/// one of the seed's.
+/// The key of a seed, if it can be made of what was kept of its leaves: it has to be the key of its ledger, and the next
+/// leaf one of the seed's.
 pub(crate) fn read_kept(
     rt: &HostRuntime,
     folder: &str,
-    keys: &Keys,
+    seed: &Seed,
 ) -> Result<Option<PrivateKey<Global>>, Memory> {
-    let Some(ledger) = read_sized(rt, folder, FolderFile::Ledger.name(), LEDGER_SIZE) else {
+    let Some(ledger) = read_sized(rt, folder, LEDGER, seed.number, LEDGER_SIZE) else {
         return Ok(None);
     };
-    let Some(kept) = read_sized(rt, folder, LEAVES, KEPT_SIZE) else {
+    let Some(kept) = read_sized(rt, folder, LEAVES, seed.number, KEPT_SIZE) else {
         return Ok(None);
     };
-    kept_key(rt.alloc(), keys.seed, keys.id, &ledger, &kept)
+    kept_key(rt.alloc(), seed.seed, seed.id, &ledger, &kept)
 }
 
 /// A file of the owner's alone, with these bytes.
@@ -195,22 +267,23 @@ fn written(rt: &HostRuntime, path: &str, bytes: &[u8]) -> io::Result<File> {
 }
 
 /// Writes bytes into a file beside one of a folder, and moves it into its place, if that can be done.
-fn put_in_place(
-    rt: &HostRuntime,
-    folder: &str,
-    (name, beside): (&str, &str),
-    bytes: &[u8],
-) -> Option<()> {
-    let beside = path_in(rt.alloc(), folder, beside).ok()?;
+fn put_in_place(rt: &HostRuntime, folder: &str, name: &str, bytes: &[u8]) -> Option<()> {
+    let beside = format!(in rt.alloc(); "{folder}/{name}.new").ok()?;
     let path = path_in(rt.alloc(), folder, name).ok()?;
     let _file = written(rt, &beside, bytes).ok()?;
     fs::rename(rt, &beside, &path).ok()
 }
 
-/// Keeps the keys of the leaves, if that can be done. They are no secret, and need not be there.
-pub(crate) fn keep_leaves(rt: &HostRuntime, folder: &str, key: &PrivateKey<Global>) -> Option<()> {
+/// Keeps the keys of the leaves of the key of a number, if that can be done. They are no secret, and need not be there.
+pub(crate) fn keep_leaves(
+    rt: &HostRuntime,
+    folder: &str,
+    number: u8,
+    key: &PrivateKey<Global>,
+) -> Option<()> {
     let kept = key.kept_leaves(rt.alloc()).ok()?;
-    put_in_place(rt, folder, (LEAVES, LEAVES_BESIDE), &kept)
+    let name = name_of(rt.alloc(), LEAVES, number).ok()?;
+    put_in_place(rt, folder, &name, &kept)
 }
 
 /// The text of the blocks that were kept, or nothing where none can be read.
@@ -245,7 +318,7 @@ pub(crate) fn keep_blocks(
     if read_blocks_text(rt, folder).is_some_and(|before| before == text) {
         return Some(());
     }
-    put_in_place(rt, folder, (BLOCKS, BLOCKS_BESIDE), &text)
+    put_in_place(rt, folder, BLOCKS, &text)
 }
 
 /// The bytes of a file of the system, of which one more than a file may have is enough.
@@ -328,52 +401,132 @@ fn has_bytes(rt: &HostRuntime, folder: &str, file: FolderFile) -> Result<bool, A
     Ok(fs::metadata(rt, &path).is_ok_and(|found| found.len() != 0))
 }
 
-/// Refuses a folder whose ledger would be made beside a journal that has something in it: leaves that were used would
-/// be handed out again. The journal is looked at first, since another process makes the ledger before it.
-fn check_ledger(rt: &HostRuntime, folder: &str) -> Result<(), Hindrance> {
-    if has_bytes(rt, folder, FolderFile::Journal)? && !has_bytes(rt, folder, FolderFile::Ledger)? {
-        return Err(Hindrance::OfFile(Refusal::Foreign, FolderFile::Ledger, FileFault::Gone));
+/// Refuses a folder whose first ledger would be made beside a journal that has something in it: leaves that were used
+/// would be handed out again. The journal is looked at first, since another process makes the ledger before it.
+fn check_first_ledger(rt: &HostRuntime, folder: &str) -> Result<(), Hindrance> {
+    let first = FolderFile::Ledger(0);
+    if has_bytes(rt, folder, FolderFile::Journal)? && !has_bytes(rt, folder, first)? {
+        return Err(Hindrance::OfFile(Refusal::Foreign, first, FileFault::Gone));
     }
     Ok(())
 }
 
-/// Refuses a folder that isn't this user's, or hasn't the ledger that it had. Nothing is written.
-pub(crate) fn check_folder(rt: &HostRuntime, folder: &str, user: User) -> Result<(), Hindrance> {
-    check_user(rt, folder, user)?;
-    check_ledger(rt, folder)
+/// Of how many ledgers a place tells: two numbers are the folder's, and two each ledger's.
+fn ledgers_in(place: &[u8]) -> usize {
+    let blanks = place.iter().filter(|byte| **byte == b' ').count();
+    blanks / 2
 }
 
-/// Locks the ledger's file: while the handle is open, no other process is given the lock. Where the system has no locks
+/// With how many ledgers a folder was used. Where it tells of no place, but its journal has something, that may be any
+/// number.
+fn used_ledgers(rt: &HostRuntime, folder: &str) -> Result<usize, Hindrance> {
+    let place = read_place(rt, folder).map_err(|fault| place_hindrance(&fault))?;
+    if let Some(place) = place {
+        Ok(ledgers_in(&place))
+    } else if has_bytes(rt, folder, FolderFile::Journal)? {
+        Ok(usize::from(MOST_KEYS))
+    } else {
+        Ok(0)
+    }
+}
+
+/// Refuses a folder that hasn't each ledger with which it was used, of the keys that it has. Where it was used is looked
+/// at first, since another process makes a ledger before it tells of it.
+fn check_later_ledgers(rt: &HostRuntime, folder: &str, count: u8) -> Result<(), Hindrance> {
+    let used = used_ledgers(rt, folder)?;
+    for number in 1..count {
+        let later = FolderFile::Ledger(number);
+        if usize::from(number) < used && !has_bytes(rt, folder, later)? {
+            return Err(Hindrance::OfFile(Refusal::Foreign, later, FileFault::Lost));
+        }
+    }
+    Ok(())
+}
+
+/// Refuses a folder that isn't this user's, or hasn't the ledgers that it had. Nothing is written.
+pub(crate) fn check_folder(
+    rt: &HostRuntime,
+    folder: &str,
+    user: User,
+    keys: &Keys,
+) -> Result<(), Hindrance> {
+    check_user(rt, folder, user)?;
+    check_first_ledger(rt, folder)?;
+    check_later_ledgers(rt, folder, count_of(keys))
+}
+
+/// How many keys there are.
+pub(crate) fn count_of(keys: &Keys) -> u8 {
+    match u8::try_from(keys.seeds.len()) {
+        Ok(count) => count,
+        Err(_) => MOST_KEYS,
+    }
+}
+
+/// Locks a ledger's file: while the handle is open, no other process is given the lock. Where the system has no locks
 /// that is refused, since two processes would sign with one leaf.
-pub(crate) fn lock_ledger(rt: &HostRuntime, folder: &str) -> Result<File, Hindrance> {
-    let path = path_of(rt.alloc(), folder, FolderFile::Ledger)?;
+fn lock_ledger(rt: &HostRuntime, folder: &str, number: u8) -> Result<File, Hindrance> {
+    let ledger = FolderFile::Ledger(number);
+    let path = path_of(rt.alloc(), folder, ledger)?;
     let file = OpenOptions::new()
         .read(true)
         .write(true)
         .create(true)
         .open(rt, &path)
-        .map_err(|fault| device_hindrance(FolderFile::Ledger, &fault))?;
+        .map_err(|fault| device_hindrance(ledger, &fault))?;
     match file.try_lock() {
         Ok(()) => Ok(file),
         Err(TryLockError::WouldBlock) => {
-            Err(Hindrance::OfFile(Refusal::Device, FolderFile::Ledger, FileFault::InUse))
+            Err(Hindrance::OfFile(Refusal::Device, ledger, FileFault::InUse))
         }
-        Err(TryLockError::Error(fault)) => Err(Hindrance::OfFile(
-            Refusal::Device,
-            FolderFile::Ledger,
-            FileFault::of_lock(&fault),
-        )),
+        Err(TryLockError::Error(fault)) => {
+            Err(Hindrance::OfFile(Refusal::Device, ledger, FileFault::of_lock(&fault)))
+        }
     }
 }
 
-/// Where the system has the folder and its ledger: the devices, and their numbers on these. A copy has others, and so
+/// Refuses a folder that got a further key since its seeds were read: from then on that one is the newest.
+fn check_newest(rt: &HostRuntime, folder: &str, user: User, count: u8) -> Result<(), Hindrance> {
+    let next = path_of(rt.alloc(), folder, FolderFile::Seed(count))?;
+    if count < most_seeds(user) && fs::metadata(rt, &next).is_ok() {
+        return Err(Hindrance::OfFile(Refusal::Device, FolderFile::Seed(count), FileFault::InUse));
+    }
+    Ok(())
+}
+
+/// Locks the files of all ledgers, the first one first: then no other process makes a further key.
+pub(crate) fn lock_ledgers(
+    rt: &HostRuntime,
+    folder: &str,
+    user: User,
+    keys: &Keys,
+) -> Result<Vec<File>, Hindrance> {
+    let mut locks = Vec::new(rt.alloc());
+    for number in 0..count_of(keys) {
+        locks.push(lock_ledger(rt, folder, number)?)?;
+    }
+    check_newest(rt, folder, user, count_of(keys))?;
+    Ok(locks)
+}
+
+/// The device and the number of a file on it, behind what was told before.
+fn with_place(rt: &HostRuntime, told: String, device: u64, number: u64) -> io::Result<String> {
+    if told.is_empty() {
+        return Ok(format!(in rt.alloc(); "{device} {number}")?);
+    }
+    Ok(format!(in rt.alloc(); "{told} {device} {number}")?)
+}
+
+/// Where the system has the folder and its ledgers: the devices, and their numbers on these. A copy has others, and so
 /// has a ledger that was put back.
-fn place_text(rt: &HostRuntime, folder: &str, ledger: &File) -> io::Result<String> {
+fn place_text(rt: &HostRuntime, folder: &str, ledgers: &[File]) -> io::Result<String> {
     let folder = fs::metadata(rt, folder)?;
-    let ledger = ledger.metadata()?;
-    let (device, number) = (folder.dev(), folder.ino());
-    let (own_device, own_number) = (ledger.dev(), ledger.ino());
-    Ok(format!(in rt.alloc(); "{device} {number} {own_device} {own_number}\n")?)
+    let mut told = with_place(rt, String::new(rt.alloc()), folder.dev(), folder.ino())?;
+    for ledger in ledgers {
+        let found = ledger.metadata()?;
+        told = with_place(rt, told, found.dev(), found.ino())?;
+    }
+    Ok(format!(in rt.alloc(); "{told}\n")?)
 }
 
 /// What a folder's file tells of its place, if there is one.
@@ -407,33 +560,93 @@ fn elsewhere() -> Hindrance {
     Hindrance::OfFile(Refusal::Foreign, FolderFile::Place, FileFault::Elsewhere)
 }
 
-/// Whether a folder was used last at the place that it has; None where it tells of none yet.
-fn is_in_place(rt: &HostRuntime, folder: &str, own: &str) -> Result<Option<bool>, Hindrance> {
+/// What a folder tells of the place at which it was used last.
+#[derive(Clone, Copy)]
+enum Last {
+    /// Nothing yet.
+    Untold,
+    /// It is the one that it has.
+    Here,
+    /// It is that, before the folder got a further ledger.
+    Fewer,
+    /// It is that, when the folder had a further ledger.
+    More,
+    /// It is another one.
+    Elsewhere,
+}
+
+/// Whether a place tells of the same ledgers as another, and then of further ones: its line goes on.
+fn goes_on(place: &[u8], other: &[u8]) -> bool {
+    match other.strip_suffix(b"\n") {
+        Some(line) => match place.strip_prefix(line) {
+            Some(rest) => rest.starts_with(b" "),
+            None => false,
+        },
+        None => false,
+    }
+}
+
+/// How the place at which a folder was used last is to the one that it has.
+fn last_of(told: &[u8], own: &[u8]) -> Last {
+    if told == own {
+        Last::Here
+    } else if goes_on(own, told) {
+        Last::Fewer
+    } else if ledgers_in(own) != 0 && goes_on(told, own) {
+        Last::More
+    } else {
+        Last::Elsewhere
+    }
+}
+
+/// What a folder tells of the place at which it was used last, beside the one that it has.
+fn last_place(rt: &HostRuntime, folder: &str, own: &str) -> Result<Last, Hindrance> {
     match read_place(rt, folder) {
-        Ok(Some(text)) => Ok(Some(text.as_slice() == own.as_bytes())),
-        Ok(None) => Ok(None),
+        Ok(Some(told)) => Ok(last_of(&told, own.as_bytes())),
+        Ok(None) => Ok(Last::Untold),
         Err(fault) => Err(place_hindrance(&fault)),
     }
 }
 
-/// The place that a folder has, with the ledger that is open.
-fn own_place(rt: &HostRuntime, folder: &str, ledger: &File) -> Result<String, Hindrance> {
-    place_text(rt, folder, ledger).map_err(|fault| place_hindrance(&fault))
+/// The place that a folder has, with the ledgers that are open.
+fn own_place(rt: &HostRuntime, folder: &str, ledgers: &[File]) -> Result<String, Hindrance> {
+    place_text(rt, folder, ledgers).map_err(|fault| place_hindrance(&fault))
 }
 
-/// Refuses a folder that isn't at the place at which it was used last: it is a copy, or was put back, and would sign with
-/// leaves that were used. One that says that it was moved, or has no place yet, has this one from now on.
+/// Refuses a folder whose place isn't the one at which it was used last: it is a copy, or was put back, and would sign
+/// with leaves that were used; or a seed is gone.
+fn check_last(own: &str, last: Last) -> Result<(), Hindrance> {
+    match last {
+        Last::Untold | Last::Here | Last::Fewer => Ok(()),
+        Last::More => {
+            let next = u8::try_from(ledgers_in(own.as_bytes())).unwrap_or(MOST_KEYS);
+            Err(Hindrance::NoKeys(FolderFile::Seed(next), FileFault::SeedGone))
+        }
+        Last::Elsewhere => Err(elsewhere()),
+    }
+}
+
+/// Refuses a folder that isn't at the place at which it was used last, unless it says that it was moved, and gives the
+/// place that it has.
 pub(crate) fn check_place(
     rt: &HostRuntime,
     folder: &str,
-    ledger: &File,
+    ledgers: &[File],
     moved: bool,
-) -> Result<(), Hindrance> {
-    let own = own_place(rt, folder, ledger)?;
-    match is_in_place(rt, folder, &own)? {
-        Some(true) => Ok(()),
-        Some(false) if !moved => Err(elsewhere()),
-        _ => put_place(rt, folder, &own).map_err(|fault| place_hindrance(&fault)),
+) -> Result<String, Hindrance> {
+    let own = own_place(rt, folder, ledgers)?;
+    let last = last_place(rt, folder, &own)?;
+    if !moved {
+        check_last(&own, last)?;
+    }
+    Ok(own)
+}
+
+/// Tells a folder its place, where it doesn't tell that already. Only then leaves are taken.
+pub(crate) fn tell_place(rt: &HostRuntime, folder: &str, own: &str) -> Result<(), Hindrance> {
+    match last_place(rt, folder, own)? {
+        Last::Here => Ok(()),
+        _ => put_place(rt, folder, own).map_err(|fault| place_hindrance(&fault)),
     }
 }
 
@@ -451,21 +664,38 @@ fn open_present(
     }
 }
 
-/// Refuses a folder as `check_place` does, and writes nothing.
-pub(crate) fn look_at_place(rt: &HostRuntime, folder: &str, moved: bool) -> Result<(), Hindrance> {
-    // Without its ledger a folder isn't at the place that it tells of.
-    let own = match open_present(rt, folder, FolderFile::Ledger)? {
-        Some(ledger) => own_place(rt, folder, &ledger)?,
-        None => String::new(rt.alloc()),
-    };
-    match is_in_place(rt, folder, &own)? {
-        Some(false) if !moved => Err(elsewhere()),
-        _ => Ok(()),
+/// The files of the ledgers that there are, the first one first, up to one that isn't there.
+fn open_ledgers(rt: &HostRuntime, folder: &str, keys: &Keys) -> Result<Vec<File>, Hindrance> {
+    let mut ledgers = Vec::new(rt.alloc());
+    for number in 0..count_of(keys) {
+        match open_present(rt, folder, FolderFile::Ledger(number))? {
+            Some(ledger) => ledgers.push(ledger)?,
+            None => break,
+        }
     }
+    Ok(ledgers)
+}
+
+/// Refuses a folder as `check_place` does, and locks nothing.
+pub(crate) fn look_at_place(
+    rt: &HostRuntime,
+    folder: &str,
+    keys: &Keys,
+    moved: bool,
+) -> Result<(), Hindrance> {
+    // Without its ledger a folder isn't at the place that it tells of.
+    let ledgers = open_ledgers(rt, folder, keys)?;
+    let own = check_place(rt, folder, &ledgers, moved)?;
+    let_go(own);
+    Ok(())
 }
 
 /// What a file of a folder holds; nothing where there is none.
-fn read_present(rt: &HostRuntime, folder: &str, file: FolderFile) -> Result<Vec<u8>, Hindrance> {
+pub(crate) fn read_present(
+    rt: &HostRuntime,
+    folder: &str,
+    file: FolderFile,
+) -> Result<Vec<u8>, Hindrance> {
     let mut text = Vec::new(rt.alloc());
     let Some(found) = open_present(rt, folder, file)? else {
         return Ok(text);

@@ -2,21 +2,22 @@
 
 use commands::Refusal;
 use layout::{Memory, User};
-use std::alloc::AllocError;
+use std::alloc::{AllocError, AllocFailed};
+use std::fmt;
 use std::io::{self, ErrorKind};
 use thiserror::Error;
 
 /// A file of a user's folder.
 #[derive(Clone, Copy, Debug)]
 pub(crate) enum FolderFile {
-    /// That of the seed and its identifier.
-    Seed,
+    /// That of the seed of the key of this number, and of its identifier.
+    Seed(u8),
     /// That of user 0's public key.
     SuperKey,
     /// That of the user's number.
     User,
-    /// That of the ledger.
-    Ledger,
+    /// That of the ledger of the key of this number.
+    Ledger(u8),
     /// That of the journal.
     Journal,
     /// That of the place at which the folder was used last.
@@ -24,18 +25,68 @@ pub(crate) enum FolderFile {
 }
 
 impl FolderFile {
-    /// Its name in the folder.
-    pub(crate) fn name(self) -> &'static str {
+    /// What its name begins with.
+    fn name(self) -> &'static str {
         match self {
-            FolderFile::Seed => "seed",
+            FolderFile::Seed(_) => "seed",
             FolderFile::SuperKey => "super.pub",
             FolderFile::User => "user",
-            FolderFile::Ledger => "ledger",
+            FolderFile::Ledger(_) => "ledger",
             FolderFile::Journal => "journal",
             FolderFile::Place => "place",
         }
     }
+
+    /// The number of the key whose file it is; 0 of one that isn't a key's.
+    fn number(self) -> u8 {
+        match self {
+            FolderFile::Seed(number) | FolderFile::Ledger(number) => number,
+            _ => 0,
+        }
+    }
 }
+
+/// Its name in the folder: of a key but the first one with the key's number.
+impl fmt::Display for FolderFile {
+    fn fmt<W: fmt::Write>(&self, f: &mut fmt::Formatter<W>) -> fmt::Result {
+        let (name, number) = (self.name(), self.number());
+        if number == 0 {
+            write!(f, "{name}")
+        } else {
+            write!(f, "{name}.{number}")
+        }
+    }
+}
+
+/// What is told of a file that is there where a user's folder is to be made.
+const PRESENT: &str =
+    "already there: a folder that has a user's files is left as it is, since a key whose seed is lost can't be made again";
+
+/// What is told of a folder in which another process works.
+const IN_USE: &str = "in use: another sundr works in this folder, wait until it has ended";
+
+/// What is told of a folder that is at another place.
+const ELSEWHERE: &str =
+    "the folder was used last at another place, so it is a copy, or was put back, and would sign again with what is used up: never go on with one; if it was only moved, say --moved once";
+
+/// What is told of a file without a change.
+const NO_CHANGE: &str = "no change is in it: a line each of adduser, setkey, addmember, dropmember";
+
+/// What is told of the first ledger where its folder was used.
+const GONE: &str =
+    "gone or empty, though the journal isn't: a new one would sign again with what is used up; put it back, no older copy, or make a new folder";
+
+/// What is told of a later one.
+const LOST: &str =
+    "gone or empty, though the folder was used with it: a new one would sign again with what is used up; put it back, no older copy, or make a new folder";
+
+/// What is told of a ledger without its seed.
+const SEEDLESS: &str =
+    "there, and not new, without the seed beside it: put the seed back, or move this file out of the folder";
+
+/// What is told of a ledger that isn't its seed's.
+const OF_OTHER_SEED: &str =
+    "not whole, or not of the seed beside it: are files of two folders mixed?";
 
 /// What is at fault with a file.
 #[derive(Clone, Copy, Debug)]
@@ -72,6 +123,18 @@ pub(crate) enum FileFault {
     NoLocks,
     /// It has nothing, but once had: another file tells so.
     Gone,
+    /// It has nothing, but once had: the folder tells where it was.
+    Lost,
+    /// It is gone, but the folder tells that there was a ledger beside it.
+    SeedGone,
+    /// It is there without its seed.
+    Seedless,
+    /// It isn't whole, or is another key's.
+    OfOtherSeed,
+    /// It has no text of UTF-8.
+    NoText,
+    /// It has no change.
+    NoChange,
     /// It isn't a user's number.
     NoNumber,
     /// It tells of another place.
@@ -103,9 +166,7 @@ impl FileFault {
         match self {
             FileFault::Absent => "no such file",
             FileFault::Unmade => "no such file: sundr init makes a user's folder",
-            FileFault::Present => {
-                "already there: a folder that has a user's files is left as it is, since a key whose seed is lost can't be made again"
-            }
+            FileFault::Present => PRESENT,
             FileFault::Denied => "permission denied",
             FileFault::Directory => "is a directory",
             FileFault::NoDirectory => "is no directory",
@@ -116,16 +177,56 @@ impl FileFault {
             FileFault::NoRandom => "the system gives no random bytes for it",
             FileFault::NoKey => "not a public key of 56 bytes",
             FileFault::TooOpen => "permissions are too open: chmod 600 makes it its owner's alone",
-            FileFault::InUse => {
-                "in use: another sundr works in this folder, wait until it has ended"
-            }
-            FileFault::NoLocks => { "can't be locked: keep the folder on a disk of this machine" }
+            FileFault::InUse => IN_USE,
+            FileFault::NoLocks => "can't be locked: keep the folder on a disk of this machine",
             FileFault::NoNumber => "not a user's number, 0 to 63",
-            FileFault::Elsewhere => {
-                "the folder was used last at another place, so it is a copy, or was put back, and would sign again with what is used up: never go on with one; if it was only moved, say --moved once"
+            FileFault::Elsewhere => ELSEWHERE,
+            FileFault::NoText => "not text in UTF-8",
+            FileFault::NoChange => NO_CHANGE,
+            FileFault::Gone => GONE,
+            FileFault::Lost => LOST,
+            FileFault::SeedGone => "gone, though the folder was used with it: put it back",
+            FileFault::Seedless => SEEDLESS,
+            FileFault::OfOtherSeed => OF_OTHER_SEED,
+        }
+    }
+}
+
+/// Why a key isn't renewed.
+#[derive(Clone, Copy, Debug)]
+pub(crate) enum RenewalFault {
+    /// User 0 has one key for good.
+    Pinned,
+    /// The user has as many keys as one may have.
+    KeysFull,
+    /// An operation is declared and not yet signed.
+    UnderWay,
+    /// An operation is declared and can't be signed any more.
+    Spent,
+    /// The newest key has signed no operation that was placed.
+    Unlisted,
+    /// The newest key has many leaves left.
+    ManyLeaves,
+}
+
+impl RenewalFault {
+    /// What is told of it.
+    pub(crate) fn words(self) -> &'static str {
+        match self {
+            RenewalFault::Pinned =>
+                "user 0 has one key for good, the one that all others were told",
+            RenewalFault::KeysFull => "the folder has 16 keys, the most that a user may have",
+            RenewalFault::UnderWay => {
+                "an operation is begun under the newest key, and can't go on under another: any command that asks the server finishes it first"
             }
-            FileFault::Gone => {
-                "gone or empty, though the journal isn't: a new one would sign again with what is used up; put it back, no older copy, or make a new folder"
+            RenewalFault::Spent => {
+                "an operation is begun under the newest key, which has no leaf left to sign it, and no other key can: who goes on needs a new folder, added as a new user"
+            }
+            RenewalFault::Unlisted => {
+                "the newest key hasn't signed an operation yet: user 0 has to type it (the last line of key), and then a command that asks the server has to be done"
+            }
+            RenewalFault::ManyLeaves => {
+                "the newest key has more than 512 leaves left, and a user has at most 16 keys: --early makes one all the same"
             }
         }
     }
@@ -153,13 +254,16 @@ pub(crate) enum Hindrance {
     /// What an answer tells too.
     #[error("{0}")]
     Refused(Refusal),
+    /// No further key is made.
+    #[error("no renewal")]
+    NotRenewed(RenewalFault),
 }
 
 impl Hindrance {
     /// What an answer tells too, if that is printed of it.
     pub(crate) fn refusal(self) -> Option<Refusal> {
         match self {
-            Hindrance::NoKeys(..) | Hindrance::NoFile(_) => None,
+            Hindrance::NoKeys(..) | Hindrance::NoFile(_) | Hindrance::NotRenewed(_) => None,
             Hindrance::NoFolder(_) => Some(Refusal::Device),
             Hindrance::OfUser(_) => Some(Refusal::Foreign),
             Hindrance::OfFile(refusal, ..) | Hindrance::Refused(refusal) => Some(refusal),
@@ -175,6 +279,18 @@ impl From<AllocError> for Hindrance {
 
 impl From<Memory> for Hindrance {
     fn from(_e: Memory) -> Hindrance {
+        Hindrance::Refused(Refusal::Memory)
+    }
+}
+
+impl From<RenewalFault> for Hindrance {
+    fn from(fault: RenewalFault) -> Hindrance {
+        Hindrance::NotRenewed(fault)
+    }
+}
+
+impl<T: Drop> From<AllocFailed<T>> for Hindrance {
+    fn from(_e: AllocFailed<T>) -> Hindrance {
         Hindrance::Refused(Refusal::Memory)
     }
 }

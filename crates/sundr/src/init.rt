@@ -1,14 +1,16 @@
 //! The making of a user's folder.
 
-use crate::folder::{OWNERS_ALONE, content_hindrance, device_hindrance, hindrance_of, path_of};
+use crate::folder::{
+    MOST_KEYS, OWNERS_ALONE, content_hindrance, device_hindrance, hindrance_of, path_of,
+};
 use crate::hindrance::{FileFault, FolderFile, Hindrance};
 use commands::Refusal;
 use drawn_key::drawn_key;
 use file_commands::NewFolder;
 use hex::FromHex;
 use layout::{User, digest, let_go};
-use lms_sign::{ID_SIZE, KEY_SIZE, PublicKey, SEED_SIZE};
-use std::alloc::AllocError;
+use lms_sign::{ID_SIZE, KEY_SIZE, PrivateKey, PublicKey, SEED_SIZE};
+use std::alloc::Global;
 use std::fmt;
 use std::fs::{self, DirBuilder, File, OpenOptions};
 use std::io::{self, ErrorKind, Read, Write};
@@ -26,12 +28,13 @@ const KEY_FILE_SIZE: u64 = 128;
 /// How many bytes of a key's digest are told as its fingerprint.
 const FINGERPRINT_SIZE: usize = 12;
 
-/// The files of a user's folder, none of which may be there before it is made.
-const FILES: [FolderFile; 6] = [
-    FolderFile::Seed,
+/// A seed and its identifier, as their file has them.
+pub(crate) type SeedBytes = [u8; SEED_SIZE + ID_SIZE];
+
+/// The files of a user's folder beside those of keys, none of which may be there before it is made.
+const FILES: [FolderFile; 4] = [
     FolderFile::SuperKey,
     FolderFile::User,
-    FolderFile::Ledger,
     FolderFile::Journal,
     FolderFile::Place,
 ];
@@ -46,10 +49,10 @@ pub(crate) struct Made {
 
 /// The first bytes of a key's digest, to be read out to each other: they show that no key was changed on its way.
 #[derive(Clone, Copy)]
-struct Fingerprint([u8; FINGERPRINT_SIZE]);
+pub(crate) struct Fingerprint([u8; FINGERPRINT_SIZE]);
 
 impl Fingerprint {
-    fn of(key: &PublicKey) -> Fingerprint {
+    pub(crate) fn of(key: &PublicKey) -> Fingerprint {
         let digest = digest(key.as_bytes());
         let mut first = [0; FINGERPRINT_SIZE];
         first.copy_from_slice(&digest.as_bytes()[..FINGERPRINT_SIZE]);
@@ -78,7 +81,7 @@ fn unmade(file: FolderFile, fault: &io::Error) -> Hindrance {
 }
 
 /// What a fault of the system at the folder itself is told as.
-fn no_folder(fault: &io::Error) -> Hindrance {
+pub(crate) fn no_folder(fault: &io::Error) -> Hindrance {
     let at_fault = match fault.kind() {
         ErrorKind::AlreadyExists => FileFault::NoDirectory,
         _ => FileFault::of(fault),
@@ -107,39 +110,50 @@ fn read_super_key(rt: &HostRuntime, path: &str) -> Result<PublicKey, Hindrance> 
     key_of(&text).ok_or(Hindrance::NoFile(FileFault::NoKey))
 }
 
-/// Refuses a folder that has a user's files: a key whose seed is lost can't be made again.
-fn check_unmade(rt: &HostRuntime, folder: &str) -> Result<(), Hindrance> {
-    for file in FILES {
-        let path = path_of(rt.alloc(), folder, file)?;
-        if fs::symlink_metadata(rt, &path).is_ok() {
-            return Err(Hindrance::OfFile(Refusal::There, file, FileFault::Present));
-        }
+/// Refuses a folder that has this file.
+fn check_absent(rt: &HostRuntime, folder: &str, file: FolderFile) -> Result<(), Hindrance> {
+    let path = path_of(rt.alloc(), folder, file)?;
+    if fs::symlink_metadata(rt, &path).is_ok() {
+        return Err(Hindrance::OfFile(Refusal::There, file, FileFault::Present));
     }
     Ok(())
 }
 
-/// A seed and an identifier, from the system's random bytes.
-fn random_seed(rt: &HostRuntime) -> Result<[u8; SEED_SIZE + ID_SIZE], Hindrance> {
+/// Refuses a folder that has a user's files: a key whose seed is lost can't be made again.
+fn check_unmade(rt: &HostRuntime, folder: &str) -> Result<(), Hindrance> {
+    for number in 0..MOST_KEYS {
+        check_absent(rt, folder, FolderFile::Seed(number))?;
+        check_absent(rt, folder, FolderFile::Ledger(number))?;
+    }
+    for file in FILES {
+        check_absent(rt, folder, file)?;
+    }
+    Ok(())
+}
+
+/// A seed and an identifier for the key of a number, from the system's random bytes.
+pub(crate) fn random_seed(rt: &HostRuntime, number: u8) -> Result<SeedBytes, Hindrance> {
     let mut seed = [0; SEED_SIZE + ID_SIZE];
     match rt.fill_bytes(&mut seed) {
         Ok(()) => Ok(seed),
-        Err(_) => Err(Hindrance::OfFile(Refusal::Device, FolderFile::Seed, FileFault::NoRandom)),
+        Err(_) => Err(Hindrance::OfFile(
+            Refusal::Device,
+            FolderFile::Seed(number),
+            FileFault::NoRandom,
+        )),
     }
 }
 
-/// The public key of a seed and an identifier.
-fn key_of_seed<H: Threads + Sync>(
+/// The key of a seed and an identifier.
+pub(crate) fn key_of_seed<H: Threads + Sync>(
     rt: &HostRuntime,
     host: &H,
-    seed: &[u8; SEED_SIZE + ID_SIZE],
-) -> Result<PublicKey, Hindrance> {
+    seed: &SeedBytes,
+) -> Result<PrivateKey<Global>, Hindrance> {
     let (mut own_seed, mut id) = ([0; SEED_SIZE], [0; ID_SIZE]);
     own_seed.copy_from_slice(&seed[..SEED_SIZE]);
     id.copy_from_slice(&seed[SEED_SIZE..]);
-    let key = drawn_key(host, rt.alloc(), own_seed, id)?;
-    let own = key.public();
-    let_go(key);
-    Ok(own)
+    Ok(drawn_key(host, rt.alloc(), own_seed, id)?)
 }
 
 /// Makes the folder where there is none.
@@ -162,7 +176,7 @@ fn fill(file: &mut File, bytes: &[u8]) -> io::Result<()> {
 
 /// Makes a file of the owner's alone with these bytes, where there is none. Nothing that is there is written over, and
 /// no link is followed.
-fn make_file(rt: &HostRuntime, path: &str, bytes: &[u8]) -> io::Result<()> {
+pub(crate) fn make_file(rt: &HostRuntime, path: &str, bytes: &[u8]) -> io::Result<()> {
     let mut file = OpenOptions::new()
         .write(true)
         .create_new(true)
@@ -182,14 +196,14 @@ fn make(rt: &HostRuntime, folder: &str, file: FolderFile, bytes: &[u8]) -> Resul
 }
 
 /// Removes a file that was made.
-fn unmake(rt: &HostRuntime, folder: &str, file: FolderFile) {
+pub(crate) fn unmake(rt: &HostRuntime, folder: &str, file: FolderFile) {
     if let Ok(path) = path_of(rt.alloc(), folder, file) {
         let _ = fs::remove_file(rt, &path);
     }
 }
 
 /// Syncs a folder, and the one in which it stands.
-fn sync_folder(rt: &HostRuntime, folder: &str) -> io::Result<()> {
+pub(crate) fn sync_folder(rt: &HostRuntime, folder: &str) -> io::Result<()> {
     File::open(rt, folder)?.sync_all()?;
     let above = match Path::new(folder).parent() {
         Some(above) if !above.as_str().is_empty() => above.as_str(),
@@ -231,7 +245,7 @@ fn make_all(
     rt: &HostRuntime,
     folder: &str,
     made: &Made,
-    seed: &[u8; SEED_SIZE + ID_SIZE],
+    seed: &SeedBytes,
 ) -> Result<(), Hindrance> {
     make_folder(rt, folder)?;
     let user = made.user.get();
@@ -239,7 +253,7 @@ fn make_all(
     let files: [(FolderFile, &[u8]); 3] = [
         (FolderFile::SuperKey, made.super_key.as_bytes()),
         (FolderFile::User, number.as_bytes()),
-        (FolderFile::Seed, seed),
+        (FolderFile::Seed(0), seed),
     ];
     make_files(rt, folder, &files)
 }
@@ -255,8 +269,10 @@ pub(crate) fn init<H: Threads + Sync>(
         None => None,
     };
     check_unmade(rt, new.dir)?;
-    let seed = random_seed(rt)?;
-    let own = key_of_seed(rt, host, &seed)?;
+    let seed = random_seed(rt, 0)?;
+    let key = key_of_seed(rt, host, &seed)?;
+    let own = key.public();
+    let_go(key);
     let made = Made {
         user: new.user,
         own,

@@ -2,6 +2,7 @@
 //! files of one, and prints what comes of it.
 #![tactic(auto)]
 
+mod admin;
 mod batch;
 mod config;
 mod defaults;
@@ -10,10 +11,12 @@ mod hindrance;
 mod init;
 mod reaching;
 mod reason;
+mod renewing;
 mod standing;
 
+use admin::{NoChanges, read_changes};
 use batch::carry_out_batch;
-use client_verify::{Client, ClientError, Parts};
+use client_verify::{Client, ClientError, Keys as KeysOf};
 use commands::{Answer, Command};
 use config::ConfigFault;
 use defaults::{add_config, with_defaults};
@@ -21,22 +24,24 @@ use drawn_key::drawn_key;
 use file_commands::{Line, LineError, NewFolder, Request, Wanted};
 use file_session::{Resumed, Session, refusal_of};
 use folder::{
-    Keys, check_folder, check_place, check_target, check_user, keep_blocks, keep_leaves,
-    lock_ledger, open_device, read_blocks, read_content, read_kept, read_keys, read_seed,
-    write_content,
+    Keys, Seed, check_folder, check_ledger, check_place, check_target, check_user, keep_blocks,
+    keep_leaves, lock_ledgers, open_device, read_blocks, read_content, read_kept, read_keys,
+    read_seeds, tell_place, write_content,
 };
-use hindrance::{FolderFile, Hindrance};
+use hindrance::{FileFault, FolderFile, Hindrance};
 use init::{init, print_made};
 use kept_blocks::{Keeping, KeptBlocks};
 use layout::{User, let_go};
 use leaf_ledger::{Device, FileDevice};
-use lms_sign::PrivateKey;
+use lms_sign::{PrivateKey, PublicKey};
 use reaching::{Reach, Server, Stream};
 use reason::{Reason, reason_of_answer, reason_of_hindrance, reason_of_unmade};
+use renewing::{Renewed, print_renewed, renew, tell_next};
 use standing::{Standing, few_leaves, read_standing};
 use std::alloc::Global;
 use std::cell::Cell;
 use std::env;
+use std::fs::File;
 use std::io::{self, ErrorKind};
 use std::net::{Net, TcpStream};
 use std::process::ExitCode;
@@ -52,6 +57,9 @@ const REFUSED: u8 = 4;
 /// The status where what came can't be printed.
 const UNPRINTED: u8 = 6;
 
+/// Keys, each with the device of its ledger, the oldest first.
+pub(crate) type OwnKeys<D> = KeysOf<D, Global>;
+
 /// A client over the files of a folder.
 type OwnClient = Client<FileDevice<Global>, FileDevice<Global>, Global>;
 
@@ -66,56 +74,83 @@ type OwnSession<'a, H> = Session<
     Global,
 >;
 
+/// A client over a user's folder, whose ledgers are locked meanwhile.
+#[derive(Drop)]
+pub(crate) struct Opened {
+    pub(crate) client: OwnClient,
+    pub(crate) locks: Vec<File>,
+}
+
 /// What is told beside an answer.
 #[derive(Clone, Copy)]
 struct Beside {
     /// What came of the latest try to reach the server.
     reach: Reach,
-    /// How many leaves the key has left, if that is told.
+    /// How many leaves the newest key has left, if that is told.
     leaves: Option<usize>,
 }
 
 /// What is printed of a line.
 #[derive(Drop)]
 enum Outcome {
-    /// The own public key in hexadecimal digits.
+    /// The own public keys in hexadecimal digits, a line each.
     Key(String),
-    /// What the folder's ledger and journal tell.
+    /// What the folder's ledgers and journal tell.
     Status(Standing),
+    /// One more key was made.
+    Renewed(Renewed),
     /// What came of a command, and what is told beside it.
     Answer(Answer<Global>, Beside),
     /// Commands were carried out, of which all is printed, and this is the status to end with.
     Ended(u8),
 }
 
-/// The user's own key: made of what was kept of its leaves; or drawn, and then its leaves are kept. That they can't be
-/// is no fault.
+/// The key of a seed: made of what was kept of its leaves; or drawn, and then its leaves are kept. That they can't be is
+/// no fault.
 fn own_key<H: Threads + Sync>(
     rt: &HostRuntime,
     host: &H,
     folder: &str,
-    keys: &Keys,
+    seed: &Seed,
 ) -> Result<PrivateKey<Global>, Hindrance> {
-    if let Some(key) = read_kept(rt, folder, keys)? {
+    if let Some(key) = read_kept(rt, folder, seed)? {
         return Ok(key);
     }
-    let key = drawn_key(host, rt.alloc(), keys.seed, keys.id)?;
-    let _ = keep_leaves(rt, folder, &key);
+    let key = drawn_key(host, rt.alloc(), seed.seed, seed.id)?;
+    let _ = keep_leaves(rt, folder, seed.number, &key);
     Ok(key)
 }
 
-/// A client of a user with this key, over these devices.
+/// The keys of these seeds, each with the device of its ledger.
+fn own_keys<H: Threads + Sync>(
+    rt: &HostRuntime,
+    host: &H,
+    folder: &str,
+    keys: &Keys,
+) -> Result<OwnKeys<FileDevice<Global>>, Hindrance> {
+    let mut own = Vec::new(rt.alloc());
+    for seed in &keys.seeds {
+        let ledger = open_device(rt, folder, FolderFile::Ledger(seed.number))?;
+        let key = own_key(rt, host, folder, seed)?;
+        check_ledger(seed.number, ledger.text(), &key)?;
+        own.push((key, ledger))?;
+    }
+    Ok(own)
+}
+
+/// A client of a user with these keys, over these devices.
 pub(crate) fn client_over<D: Device + Drop>(
     alloc: Global,
     user: User,
     keys: &Keys,
-    key: PrivateKey<Global>,
-    ledger: D,
+    own: OwnKeys<D>,
     journal: D,
 ) -> Result<Client<D, D, Global>, Hindrance> {
-    let Ok(Parts { keys: own, journal }) = Parts::of_one(alloc, key, ledger, journal) else {
-        return Err(Hindrance::Refused(refusal_of(ClientError::Memory)));
-    };
+    if own.is_empty() {
+        let_go(own);
+        let_go(journal);
+        return Err(Hindrance::NoKeys(FolderFile::Seed(0), FileFault::Unmade));
+    }
     match Client::open(alloc, user, own, keys.pinned, journal) {
         Ok(client) => Ok(client),
         Err((error, parts)) => {
@@ -132,10 +167,29 @@ fn open_client<H: Threads + Sync>(
     line: &Line<'_>,
     keys: &Keys,
 ) -> Result<OwnClient, Hindrance> {
-    let ledger = open_device(rt, line.dir, FolderFile::Ledger)?;
     let journal = open_device(rt, line.dir, FolderFile::Journal)?;
-    let key = own_key(rt, host, line.dir, keys)?;
-    client_over(rt.alloc(), line.user, keys, key, ledger, journal)
+    let own = own_keys(rt, host, line.dir, keys)?;
+    client_over(rt.alloc(), line.user, keys, own, journal)
+}
+
+/// The user's client, where the folder is the user's, whole, locked, and at its place.
+pub(crate) fn lock_and_open<H: Threads + Sync>(
+    rt: &HostRuntime,
+    host: &H,
+    line: &Line<'_>,
+    keys: &Keys,
+) -> Result<Opened, Hindrance> {
+    check_folder(rt, line.dir, line.user, keys)?;
+    let locks = lock_ledgers(rt, line.dir, line.user, keys)?;
+    let place = check_place(rt, line.dir, &locks, line.moved)?;
+    let client = open_client(rt, host, line, keys)?;
+    match tell_place(rt, line.dir, &place) {
+        Ok(()) => Ok(Opened { client, locks }),
+        Err(hindrance) => {
+            let_go(client);
+            Err(hindrance)
+        }
+    }
 }
 
 /// Tells which operation was finished first, and the numbers of its changes that had no effect.
@@ -171,16 +225,26 @@ fn parted<H: Net<Stream = TcpStream>>(
     (client, kept)
 }
 
-/// Ends a session, and gives how many leaves its key has left, if that is told. The blocks that it has are kept in the
-/// folder; that they can't be is no fault.
+/// Ends a client, and gives how many leaves its newest key has left, if that is told.
+fn end_client(client: OwnClient) -> Option<usize> {
+    let parts = client.close();
+    let leaves = match parts.keys.last() {
+        Some((_, ledger)) => few_leaves(ledger.text()),
+        None => None,
+    };
+    let_go(parts);
+    leaves
+}
+
+/// Ends a session, and gives how many leaves its newest key has left, if that is told. The blocks that it has are kept
+/// in the folder; that they can't be is no fault.
 fn end<H: Net<Stream = TcpStream>>(
     rt: &HostRuntime,
     folder: &str,
     session: OwnSession<'_, H>,
 ) -> Option<usize> {
     let (client, kept) = parted(session);
-    let leaves = few_leaves(client.ledger().text());
-    let_go(client);
+    let leaves = end_client(client);
     let _ = keep_blocks(rt, folder, &kept);
     let_go(kept);
     leaves
@@ -207,29 +271,42 @@ fn carry_out<H: Net<Stream = TcpStream> + Threads + Sync>(
     keys: &Keys,
     command: &Command<'_>,
 ) -> Result<Outcome, Hindrance> {
-    check_folder(rt, line.dir, line.user)?;
-    let lock = lock_ledger(rt, line.dir)?;
-    check_place(rt, line.dir, &lock, line.moved)?;
-    let client = open_client(rt, host, line, keys)?;
+    let Opened { client, locks } = lock_and_open(rt, host, line, keys)?;
     let reach = Cell::new(Reach::Untried);
     let server = Server::new(host, line.server, &reach);
     let mut session = session_of(rt, server, client, read_blocks(rt, line.dir));
     let answer = answer(rt, &mut session, command);
     let leaves = end(rt, line.dir, session);
     let reach = reach.get();
+    let_go(locks);
     Ok(Outcome::Answer(answer, Beside { reach, leaves }))
 }
 
-/// The own public key in hexadecimal digits.
+/// The digits of a public key, on a line behind others.
+fn with_digits(rt: &HostRuntime, before: String, key: &PublicKey) -> Result<String, Hindrance> {
+    let digits = hex::encode(rt.alloc(), *key.as_bytes())?;
+    if before.is_empty() {
+        return Ok(digits);
+    }
+    Ok(format!(in rt.alloc(); "{before}\n{digits}")?)
+}
+
+/// The own public keys in hexadecimal digits, a line each, the oldest first.
 fn own_key_digits<H: Threads + Sync>(
     rt: &HostRuntime,
     host: &H,
     line: &Line<'_>,
 ) -> Result<String, Hindrance> {
-    let (seed, id) = read_seed(rt, line.dir)?;
+    let seeds = read_seeds(rt, line.dir, line.user)?;
     check_user(rt, line.dir, line.user)?;
-    let key = drawn_key(host, rt.alloc(), seed, id)?;
-    Ok(hex::encode(rt.alloc(), *key.public().as_bytes())?)
+    let mut digits = String::new(rt.alloc());
+    for seed in &seeds {
+        let key = drawn_key(host, rt.alloc(), seed.seed, seed.id)?;
+        let public = key.public();
+        let_go(key);
+        digits = with_digits(rt, digits, &public)?;
+    }
+    Ok(digits)
 }
 
 /// Puts the content of a file of the system.
@@ -240,13 +317,28 @@ fn put_file<H: Net<Stream = TcpStream> + Threads + Sync>(
     path: &str,
     file: &str,
 ) -> Result<Outcome, Hindrance> {
-    let keys = read_keys(rt, line.dir)?;
+    let keys = read_keys(rt, line.dir, line.user)?;
     let content = read_content(rt, file)?;
     let command = Command::Put {
         path,
         content: &content,
     };
     carry_out(rt, host, line, &keys, &command)
+}
+
+/// Makes the changes that a file of the system has. Where its words are at fault nothing is begun.
+fn make_changes<H: Net<Stream = TcpStream> + Threads + Sync>(
+    rt: &HostRuntime,
+    host: &H,
+    line: &Line<'_>,
+    file: &str,
+) -> Result<Outcome, Hindrance> {
+    let keys = read_keys(rt, line.dir, line.user)?;
+    match read_changes(rt, file) {
+        Ok(changes) => carry_out(rt, host, line, &keys, &Command::Admin(&changes)),
+        Err(NoChanges::Line(status)) => Ok(Outcome::Ended(status)),
+        Err(NoChanges::Hindered(hindrance)) => Err(hindrance),
+    }
 }
 
 /// What came of a command that shows a file: its bytes are written into a file of the system.
@@ -281,14 +373,14 @@ fn get_file<H: Net<Stream = TcpStream> + Threads + Sync>(
     }
 }
 
-/// Carries a command out that puts no file.
+/// Carries a command out that needs no file.
 fn obey_command<H: Net<Stream = TcpStream> + Threads + Sync>(
     rt: &HostRuntime,
     host: &H,
     line: &Line<'_>,
     command: &Command<'_>,
 ) -> Result<Outcome, Hindrance> {
-    let keys = read_keys(rt, line.dir)?;
+    let keys = read_keys(rt, line.dir, line.user)?;
     carry_out(rt, host, line, &keys, command)
 }
 
@@ -305,6 +397,8 @@ fn obey<H: Net<Stream = TcpStream> + Threads + Sync>(
         Wanted::Run(command) => obey_command(rt, host, line, command),
         Wanted::Put { path, file } => put_file(rt, host, line, path, file),
         Wanted::Get { path, file } => get_file(rt, host, line, path, file),
+        Wanted::Admin(file) => make_changes(rt, host, line, file),
+        Wanted::Renew { early } => Ok(Outcome::Renewed(renew(rt, host, line, *early)?)),
     }
 }
 
@@ -336,6 +430,10 @@ fn print(rt: &HostRuntime, outcome: &Result<Outcome, Hindrance>) -> anyhow::Resu
             println!(rt; "{standing}")?;
             Ok(0)
         }
+        Ok(Outcome::Renewed(renewed)) => {
+            print_renewed(rt, renewed)?;
+            Ok(0)
+        }
         Ok(Outcome::Answer(answer, _)) => print_answer(rt, answer),
         Ok(Outcome::Ended(status)) => Ok(*status),
         Err(hindrance) => print_hindrance(rt, *hindrance),
@@ -352,19 +450,19 @@ fn reason_of<'a>(
         Ok(Outcome::Answer(answer, beside)) => {
             reason_of_answer(line, wanted, beside.reach, answer)
         }
-        Ok(Outcome::Key(_) | Outcome::Status(_) | Outcome::Ended(_)) => None,
+        Ok(Outcome::Key(_) | Outcome::Status(_) | Outcome::Renewed(_) | Outcome::Ended(_)) => None,
         Err(hindrance) => Some(reason_of_hindrance(line, wanted, *hindrance)),
     }
 }
 
-/// Tells how many leaves the key has left, where these are few.
+/// Tells how many leaves the newest key has left, where these are few.
 fn tell_leaves(rt: &HostRuntime, leaves: Option<usize>) {
     if let Some(count) = leaves {
         let _ = eprintln!(rt; "leaves {count}");
     }
 }
 
-/// How many leaves the key has left, if that is told beside what came.
+/// How many leaves the newest key has left, if that is told beside what came.
 fn leaves_beside(outcome: &Result<Outcome, Hindrance>) -> Option<usize> {
     match outcome {
         Ok(Outcome::Answer(_, beside)) => beside.leaves,
@@ -382,6 +480,9 @@ fn print_with_reason(
     let status = print(rt, outcome)?;
     if let Some(reason) = reason_of(line, wanted, outcome) {
         let _ = eprintln!(rt; "sundr: {reason}");
+    }
+    if matches!(outcome, Ok(Outcome::Renewed(_))) {
+        tell_next(rt);
     }
     tell_leaves(rt, leaves_beside(outcome));
     Ok(status)

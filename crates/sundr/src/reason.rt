@@ -46,10 +46,7 @@ impl<'a> fmt::Display for Reason<'a> {
                 folder,
                 file,
                 words,
-            } => {
-                let file = file.name();
-                write!(f, "{folder}/{file}: {words}")
-            }
+            } => write!(f, "{folder}/{file}: {words}"),
             Reason::Of { name, words } => write!(f, "{name}: {words}"),
             Reason::OfUser { folder, own, other } => write!(
                 f,
@@ -65,8 +62,10 @@ fn name_of<'a>(command: &Command<'a>) -> &'a str {
         Command::Ls(path) | Command::Cat(path) | Command::Mkdir(path) | Command::Rm(path) => *path,
         Command::Put { path, .. } | Command::Link { path, .. } => *path,
         Command::AddUser { .. } => "adduser",
+        Command::SetKey { .. } => "setkey",
         Command::AddMember { .. } => "addmember",
         Command::DropMember { .. } => "dropmember",
+        Command::Admin(_) => "admin",
     }
 }
 
@@ -76,6 +75,8 @@ fn name_in<'a>(wanted: &Wanted<'a>) -> &'a str {
         Wanted::Key => "key",
         Wanted::Status => "status",
         Wanted::Batch { .. } => "batch",
+        Wanted::Renew { .. } => "renew",
+        Wanted::Admin(file) => *file,
         Wanted::Put { path, .. } | Wanted::Get { path, .. } => *path,
         Wanted::Run(command) => name_of(command),
     }
@@ -84,7 +85,7 @@ fn name_in<'a>(wanted: &Wanted<'a>) -> &'a str {
 /// The file of the system that is named, or where none is the path that is.
 fn file_in<'a>(wanted: &Wanted<'a>) -> &'a str {
     match wanted {
-        Wanted::Put { file, .. } | Wanted::Get { file, .. } => *file,
+        Wanted::Put { file, .. } | Wanted::Get { file, .. } | Wanted::Admin(file) => *file,
         _ => name_in(wanted),
     }
 }
@@ -103,7 +104,7 @@ fn reason_of_status<'a>(status: Status) -> Reason<'a> {
         ),
         Status::BadSignature => (
             "BadSignature",
-            "the server lists this user with another key: compare the one that user 0 added with what the command key prints",
+            "the server lists this user with another key: compare the one that user 0 added or set last with the last line that the command key prints",
         ),
         Status::WrongNumber => (
             "WrongNumber",
@@ -143,6 +144,9 @@ fn words_of_rule(rule: Rule) -> &'static str {
 fn words_of_lost(command: &Command<'_>) -> &'static str {
     match command {
         Command::AddUser { .. } => "without effect: user 0 alone adds users, and each number once",
+        Command::SetKey { .. } => {
+            "without effect: user 0 alone sets keys, of a listed user other than 0 who has fewer than 16"
+        }
         Command::AddMember { .. } => {
             "without effect: user 0 alone adds members, who are listed and no members yet"
         }
@@ -157,6 +161,9 @@ fn words_of_lost(command: &Command<'_>) -> &'static str {
 fn words_of_lost_in(wanted: &Wanted<'_>) -> &'static str {
     match wanted {
         Wanted::Run(command) => words_of_lost(command),
+        Wanted::Admin(_) => {
+            "these lines are without effect: user 0 alone makes them, each on what the lines before it left"
+        }
         _ => LOST,
     }
 }
@@ -202,8 +209,8 @@ fn reason_of_folder<'a>(folder: &'a str, refusal: Refusal) -> Reason<'a> {
     match refusal {
         Refusal::Foreign => Reason::OfFile {
             folder,
-            file: FolderFile::Ledger,
-            words: "not whole, or not of the seed beside it: are files of two folders mixed?",
+            file: FolderFile::Ledger(0),
+            words: FileFault::OfOtherSeed.words(),
         },
         Refusal::Damaged => Reason::OfFile {
             folder,
@@ -212,7 +219,7 @@ fn reason_of_folder<'a>(folder: &'a str, refusal: Refusal) -> Reason<'a> {
         },
         Refusal::NoLeaf => Reason::Of {
             name: folder,
-            words: "its key has signed all that it can, 1024 texts, two an operation: who goes on needs a new folder",
+            words: "its newest key has signed all that it can, 1024 texts, two an operation: renew makes another key, but for user 0",
         },
         Refusal::NoKey => Reason::Of {
             name: folder,
@@ -233,6 +240,14 @@ fn reason_of_memory<'a>() -> Reason<'a> {
     }
 }
 
+/// How much what is wanted may have at most.
+fn words_of_size(wanted: &Wanted<'_>) -> &'static str {
+    match wanted {
+        Wanted::Admin(_) => "more than 16 changes, the most that an operation may have",
+        _ => "more than 4194304 bytes, the most that a file may have",
+    }
+}
+
 /// What a refusal means.
 fn reason_of_refusal<'a>(
     line: &Line<'a>,
@@ -248,10 +263,7 @@ fn reason_of_refusal<'a>(
             name_in(wanted),
             "no number is free: of its place, or of a further operation",
         ),
-        Refusal::TooLarge => (
-            file_in(wanted),
-            "more than 4194304 bytes, the most that a file may have",
-        ),
+        Refusal::TooLarge => (file_in(wanted), words_of_size(wanted)),
         Refusal::Cut => (line.server, words_of_reach(reach)),
         Refusal::Memory => return reason_of_memory(),
         Refusal::NoLeaf | Refusal::NoKey | Refusal::Device | Refusal::Foreign | Refusal::Damaged =>
@@ -324,6 +336,10 @@ pub(crate) fn reason_of_hindrance<'a>(
         Hindrance::NoFolder(fault) => reason_of_fault(line.dir, fault),
         Hindrance::OfUser(own) => reason_of_user(line.dir, own, line.user),
         Hindrance::Refused(refusal) => reason_of_refusal(line, wanted, Reach::Untried, refusal),
+        Hindrance::NotRenewed(fault) => Reason::Of {
+            name: line.dir,
+            words: fault.words(),
+        },
     }
 }
 
@@ -338,5 +354,9 @@ pub(crate) fn reason_of_unmade<'a>(new: &NewFolder<'a>, hindrance: Hindrance) ->
         Hindrance::OfUser(_) => reason_of_folder(new.dir, Refusal::Foreign),
         Hindrance::Refused(Refusal::Memory) => reason_of_memory(),
         Hindrance::Refused(refusal) => reason_of_folder(new.dir, refusal),
+        Hindrance::NotRenewed(fault) => Reason::Of {
+            name: new.dir,
+            words: fault.words(),
+        },
     }
 }

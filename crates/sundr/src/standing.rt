@@ -1,18 +1,20 @@
-//! What the ledger and the journal of a folder tell: how far its last operation is, and how many leaves its key has
+//! What the ledgers and the journal of a folder tell: how far its last operation is, and how many leaves each key has
 //! left.
 
 ghost use Rattle.std.specs.Prelude.{◌≡◌, ◌==◌, length, filter};
 
-use crate::client_over;
-use crate::folder::{Keys, check_folder, look_at_place, read_device, read_kept, read_keys};
+use crate::folder::{
+    Keys, Seed, check_folder, check_ledger, look_at_place, read_device, read_kept, read_keys,
+};
 use crate::hindrance::{FolderFile, Hindrance};
+use crate::{OwnKeys, client_over};
 use client_verify::{Client, Phase};
 use drawn_key::drawn_key;
 use file_commands::Line;
 use layout::{User, let_go};
 use leaf_ledger::MemoryDevice;
 use lms_sign::{KEY_SIZE, PrivateKey};
-use std::alloc::Global;
+use std::alloc::{AllocError, Global};
 use std::fmt;
 use std::thread::Threads;
 
@@ -41,23 +43,40 @@ pub(crate) fn few_leaves(ledger: &[u8]) -> Option<usize> {
 }
 
 /// How far a user is by the files of a folder.
-#[derive(Clone, Copy)]
+#[derive(Drop)]
 pub(crate) struct Standing {
     user: User,
     number: u32,
     phase: Phase,
-    leaves: usize,
+    /// Of each key, the oldest first.
+    leaves: Vec<usize>,
+}
+
+/// How many leaves each of these keys has left.
+fn leaves_of(
+    alloc: Global,
+    keys: &OwnKeys<MemoryDevice<Global>>,
+) -> Result<Vec<usize>, AllocError> {
+    let mut leaves = Vec::new(alloc);
+    for (_, ledger) in keys {
+        leaves.push(free_leaves(ledger.text()))?;
+    }
+    Ok(leaves)
 }
 
 impl Standing {
     /// What a client tells over the files of its folder.
-    fn of(client: &ReadClient) -> Standing {
-        Standing {
-            user: client.user(),
-            number: client.number(),
-            phase: client.phase(),
-            leaves: free_leaves(client.ledger().text()),
-        }
+    fn of(alloc: Global, client: ReadClient) -> Result<Standing, AllocError> {
+        let (user, number, phase) = (client.user(), client.number(), client.phase());
+        let parts = client.close();
+        let leaves = leaves_of(alloc, &parts.keys);
+        let_go(parts);
+        Ok(Standing {
+            user,
+            number,
+            phase,
+            leaves: leaves?,
+        })
     }
 }
 
@@ -75,25 +94,45 @@ impl fmt::Display for Standing {
     fn fmt<W: fmt::Write>(&self, f: &mut fmt::Formatter<W>) -> fmt::Result {
         writeln!(f, "user {}", self.user.get())?;
         if self.number == 0 {
-            writeln!(f, "no operation")?;
+            write!(f, "no operation")?;
         } else {
-            writeln!(f, "operation {} {}", self.number, words_of(self.phase))?;
+            write!(f, "operation {} {}", self.number, words_of(self.phase))?;
         }
-        write!(f, "key 0 leaves {}", self.leaves)
+        for (number, count) in self.leaves.iter().enumerate() {
+            write!(f, "\nkey {number} leaves {count}")?;
+        }
+        Ok(())
     }
 }
 
-/// The user's own key, which isn't kept where it has to be drawn.
+/// The key of a seed, which isn't kept where it has to be drawn.
 fn key_unkept<H: Threads + Sync>(
     rt: &HostRuntime,
     host: &H,
     folder: &str,
-    keys: &Keys,
+    seed: &Seed,
 ) -> Result<PrivateKey<Global>, Hindrance> {
-    if let Some(key) = read_kept(rt, folder, keys)? {
+    if let Some(key) = read_kept(rt, folder, seed)? {
         return Ok(key);
     }
-    Ok(drawn_key(host, rt.alloc(), keys.seed, keys.id)?)
+    Ok(drawn_key(host, rt.alloc(), seed.seed, seed.id)?)
+}
+
+/// The keys of these seeds, each with what its ledger's file holds.
+fn read_own<H: Threads + Sync>(
+    rt: &HostRuntime,
+    host: &H,
+    folder: &str,
+    keys: &Keys,
+) -> Result<OwnKeys<MemoryDevice<Global>>, Hindrance> {
+    let mut own = Vec::new(rt.alloc());
+    for seed in &keys.seeds {
+        let ledger = read_device(rt, folder, FolderFile::Ledger(seed.number))?;
+        let key = key_unkept(rt, host, folder, seed)?;
+        check_ledger(seed.number, ledger.text(), &key)?;
+        own.push((key, ledger))?;
+    }
+    Ok(own)
 }
 
 /// The user's client over what the files of the folder hold.
@@ -103,10 +142,9 @@ fn read_client<H: Threads + Sync>(
     line: &Line<'_>,
     keys: &Keys,
 ) -> Result<ReadClient, Hindrance> {
-    let ledger = read_device(rt, line.dir, FolderFile::Ledger)?;
     let journal = read_device(rt, line.dir, FolderFile::Journal)?;
-    let key = key_unkept(rt, host, line.dir, keys)?;
-    client_over(rt.alloc(), line.user, keys, key, ledger, journal)
+    let own = read_own(rt, host, line.dir, keys)?;
+    client_over(rt.alloc(), line.user, keys, own, journal)
 }
 
 /// How far the user of a folder is. A folder that a command would refuse is refused, but for one that is in use. Nothing
@@ -116,11 +154,9 @@ pub(crate) fn read_standing<H: Threads + Sync>(
     host: &H,
     line: &Line<'_>,
 ) -> Result<Standing, Hindrance> {
-    let keys = read_keys(rt, line.dir)?;
-    check_folder(rt, line.dir, line.user)?;
-    look_at_place(rt, line.dir, line.moved)?;
+    let keys = read_keys(rt, line.dir, line.user)?;
+    check_folder(rt, line.dir, line.user, &keys)?;
+    look_at_place(rt, line.dir, &keys, line.moved)?;
     let client = read_client(rt, host, line, &keys)?;
-    let standing = Standing::of(&client);
-    let_go(client);
-    Ok(standing)
+    Ok(Standing::of(rt.alloc(), client)?)
 }
