@@ -2,7 +2,7 @@
 
 _sundr() {
     local word=${COMP_WORDS[COMP_CWORD]} before=${COMP_WORDS[COMP_CWORD - 1]} command= at place=0
-    local commands="init key status ls cat put get mkdir rm link adduser addmember dropmember batch help"
+    local commands="init key status ls cat put get mkdir rm link adduser setkey addmember dropmember admin renew batch help"
     # The command, and how many words come between it and this one.
     for ((at = 1; at < COMP_CWORD; at++)); do
         if [[ -n $command ]]; then
@@ -27,7 +27,8 @@ _sundr() {
             esac
             ;;
         init.0) mapfile -t COMPREPLY < <(compgen -d -- "$word") ;;
-        init.2 | put.1 | get.1) mapfile -t COMPREPLY < <(compgen -f -- "$word") ;;
+        init.2 | put.1 | get.1 | admin.0) mapfile -t COMPREPLY < <(compgen -f -- "$word") ;;
+        renew.*) mapfile -t COMPREPLY < <(compgen -W "--early --help" -- "$word") ;;
         batch.*) mapfile -t COMPREPLY < <(compgen -W "--stop --help" -- "$word") ;;
         help.0) mapfile -t COMPREPLY < <(compgen -W "$commands" -- "$word") ;;
         *) mapfile -t COMPREPLY < <(compgen -W "--help" -- "$word") ;;
