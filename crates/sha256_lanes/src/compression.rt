@@ -17,10 +17,10 @@ pub(crate) type State = [[u32; 8]; 8];
 pub(crate) type Block = [[u32; 8]; 16];
 
 /// The words of the schedule.
-type Schedule = [[u32; 8]; 64];
+pub(crate) type Schedule = [[u32; 8]; 64];
 
 /// K (FIPS 180-4 section 4.2.2).
-const ROUND_CONSTANTS: [u32; 64] = [
+pub(crate) const ROUND_CONSTANTS: [u32; 64] = [
     0x428a_2f98,
     0x7137_4491,
     0xb5c0_fbcf,
@@ -103,7 +103,7 @@ fn next_words(schedule: &Schedule, place: usize) -> Words
 
 /// Fills in the schedule of each lane, from the words of its block.
 #[inline(always)]
-fn fill(words: &mut Schedule, block: &Block)
+pub(crate) fn fill(words: &mut Schedule, block: &Block)
     ensures { (i : ℕ) (b : List ℕ) → i < 8 → lane i block.now ≡ first_words b 16 → IsScheduled i words.new b }
 {
     'first: for place in 0..16 {

@@ -9,10 +9,10 @@ use crate::loading::loaded;
 use crate::words::splat;
 
 /// The size of a block, in bytes.
-const BLOCK_SIZE: usize = 64;
+pub(crate) const BLOCK_SIZE: usize = 64;
 
 /// The size of a digest, in bytes.
-const DIGEST_SIZE: usize = 32;
+pub(crate) const DIGEST_SIZE: usize = 32;
 
 /// Where the length stands in a block that is padding alone.
 const LENGTH_AT: usize = 56;
@@ -73,7 +73,7 @@ fn hashed(text: &[u8], stride: usize, count: usize) -> State
 }
 
 /// The padding of a message that ends with a block (FIPS 180-4 section 5.1.1).
-fn whole_padding(size: usize) -> [u8; 64]
+pub(crate) fn whole_padding(size: usize) -> [u8; 64]
     requires { size % 64 ≡ 0 }
     ensures { result ≡ padding size }
 {
