@@ -214,15 +214,6 @@ impl<L: Device, J: Device, A: Allocator + Copy> Client<L, J, A> {
         &self.blocks
     }
 
-    /// The device of the first key's ledger, to be looked at.
-    pub fn ledger(&self) -> &L
-        ensures file { L.history result.now ≡ (ledger_at 0 self.now.devices).file }
-        ensures faults { L.fault_count result.now ≡ (ledger_at 0 self.now.devices).faults }
-    {
-        self.releases.type_invariant();
-        self.releases.ledger(0)
-    }
-
     /// The device of this key's ledger, to be looked at.
     pub fn ledger_of(&self, key: usize) -> &L
         requires { HasKey key (released self.now) }

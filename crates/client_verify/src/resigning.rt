@@ -58,12 +58,21 @@ impl<L: Device, J: Device, A: Allocator + Copy> Client<L, J, A> {
         self.releases.key_count()
     }
 
-    /// How many leaves of the newest key aren't used.
+    /// How many leaves of this key aren't used.
+    pub fn free_leaves_of(&self, key: usize) -> u32
+        requires key { HasKey key (released self.now) }
+        requires stands { self.now.phase ≢ Phase.Failed }
+        ensures { result ≡ free_leaves (ledger_at key self.now.devices).file.now.text }
+    {
+        self.releases.free_leaves(key)
+    }
+
+    /// And how many of the newest key.
     pub fn free_leaves(&self) -> u32
         requires { self.now.phase ≢ Phase.Failed }
         ensures { result ≡ free_leaves (ledger_at (newest_key self.now) self.now.devices).file.now.text }
     {
-        self.releases.free_leaves(self.newest_key())
+        self.free_leaves_of(self.newest_key())
     }
 
     /// The number of the newest key that signed the certificate that is declared, if one did: each is tried, from the

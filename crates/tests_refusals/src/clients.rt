@@ -192,7 +192,8 @@ fn asked<'h>(
 
 /// The phase that a client is in, and the marks of the leaves in its ledger.
 fn stand(rt: &impl Aided, client: &HeapClient<'_>) -> (Phase, Vec<u8>) {
-    (client.phase(), joined(rt, &[client.ledger().text()]))
+    client.type_invariant();
+    (client.phase(), joined(rt, &[client.ledger_of(0).text()]))
 }
 
 /// What a client answers at last. Where memory ran out first, its phase and the marks of its leaves are as before.

@@ -46,7 +46,8 @@ fn shows_signed(rt: &impl Aided, client: &HeapClient<'_>) {
 
 /// And its devices.
 fn shows_devices(rt: &impl Aided, client: &HeapClient<'_>) {
-    check(rt, client.ledger().text().len() == 1_080, "its ledger");
+    client.type_invariant();
+    check(rt, client.ledger_of(0).text().len() == 1_080, "its ledger");
     check(rt, client.journal().text().len() > 5_000, "its journal");
 }
 

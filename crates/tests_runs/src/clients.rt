@@ -221,7 +221,8 @@ fn crashed(
     client: MemoryClient,
     left: Left,
 ) -> Kept {
-    let ledger = bytes_left(rt, client.ledger(), left);
+    client.type_invariant();
+    let ledger = bytes_left(rt, client.ledger_of(0), left);
     let journal = bytes_left(rt, client.journal(), left);
     let row = row_of(rt, number, NEVER, b'x', b"");
     let row = joined(rt, &[&row, &fields(rt, &[&ledger, &journal])]);
