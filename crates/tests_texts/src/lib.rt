@@ -1,11 +1,13 @@
 //! Tests of texts: what the formats' description spells out, the first fault of what is none, frames, plans and
-//! directories, what stands above the structures of a reply, and signatures from outside.
+//! directories, what stands above the structures of a reply, and digests and signatures from outside.
 #![tactic(auto)]
 
 #[cfg(test)]
 mod above;
 #[cfg(test)]
 mod certificates;
+#[cfg(test)]
+mod digests;
 #[cfg(test)]
 mod directories;
 #[cfg(test)]

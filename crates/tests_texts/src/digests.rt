@@ -1,0 +1,57 @@
+//! Digests of texts of whole groups of eight blocks of SHA-256, and of their neighbours.
+
+use crate::here::Here;
+use layout::digest;
+use tests_aids::{Aided, Host, check_text};
+
+/// The first so many bytes of a text that counts to 250 again and again.
+fn counted(rt: &impl Host, size: usize) -> Vec<u8> {
+    let mut text = Vec::new(rt.alloc());
+    for place in 0..size {
+        text.push((place % 251) as u8).expect(rt, "memory");
+    }
+    text
+}
+
+/// Sizes of such texts with their digests, which are another program's SHA-256.
+const DIGESTS: [(usize, &[u8; 32]); 6] = [
+    (
+        0,
+        b"\xe3\xb0\xc4\x42\x98\xfc\x1c\x14\x9a\xfb\xf4\xc8\x99\x6f\xb9\x24\
+        \x27\xae\x41\xe4\x64\x9b\x93\x4c\xa4\x95\x99\x1b\x78\x52\xb8\x55",
+    ),
+    (
+        511,
+        b"\x96\x78\x17\x41\xba\x50\xe7\x28\x0e\x4d\x5e\xab\x7c\xf2\xcf\xed\
+        \x6b\x0e\xeb\x98\xd2\x7d\x23\x56\x11\xe6\x89\x32\x2b\x6b\x6d\x0f",
+    ),
+    (
+        512,
+        b"\xd8\x6e\x38\x62\x78\xa7\x17\x82\xa2\x83\xf9\x6a\xae\x4f\x4e\x74\
+        \x37\x47\x1a\xbe\xf7\x11\x36\xbd\x28\x11\xf9\x82\x45\x48\x8d\x89",
+    ),
+    (
+        513,
+        b"\xc2\x52\x5d\x53\x43\x58\xba\xf2\x02\x0a\x25\x60\x01\x5a\xa2\xad\
+        \xbd\x23\xd9\x4e\xee\xc6\x45\x5c\x24\x09\x2a\xaf\xdd\x8c\xf1\xb5",
+    ),
+    (
+        1024,
+        b"\x2b\xce\x1b\xa6\x28\x72\x06\x64\xbe\x4b\x9f\xdd\x77\xaa\xe0\x67\
+        \x8e\x5f\x0f\x3f\x02\xfc\x6f\xf6\x41\xec\x87\x90\x94\xf6\xa4\x04",
+    ),
+    (
+        4096,
+        b"\xd6\x7c\x65\x6e\x01\x75\x66\x50\xd7\x77\x17\xb0\x83\x99\x85\xa0\
+        \x56\xec\x28\xff\xe1\x74\x60\x1d\x69\x0f\xc4\x07\xa2\xce\xff\xca",
+    ),
+];
+
+#[test]
+fn digests_of_counted_texts(rt: HostRuntime) {
+    let rt = (rt, Here);
+    for (size, by_another) in &DIGESTS {
+        let text = counted(&rt, *size);
+        check_text(&rt, digest(&text).as_bytes(), *by_another);
+    }
+}
