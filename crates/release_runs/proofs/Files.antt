@@ -14,7 +14,8 @@ use Rattle.client_journal.specs.Records.{Record, Tells}
 use Rattle.release_runs.proofs.Members.{In, in-map}
 use Rattle.client_releases.specs.OwnKeys.{AreStill}
 use Rattle.client_releases.specs.Releasing.{OthersStay, OwnDevices, ledger_at, no_ledger}
-use Rattle.release_runs.specs.Steps.{AreLeft, IsLeftOf, Owner}
+use Rattle.release_runs.specs.Crashes.{AreLeft, IsLeftOf}
+use Rattle.release_runs.specs.Steps.{Owner}
 use Rattle.release_runs.proofs.Stories.{Release, key, leaf, mark, record_of, records}
 
 -- the file of a key's ledger; one that isn't there holds nothing

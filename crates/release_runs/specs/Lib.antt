@@ -1,3 +1,4 @@
+pub mod Crashes
 pub mod Steps
 pub mod Runs
 pub mod Released

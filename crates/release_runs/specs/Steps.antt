@@ -6,13 +6,14 @@
 use Rattle.std.specs.Prelude.{◌≡◌, ◌<◌, ℕ, List, [], ◌∷◌, ◌++◌, length, map, slice_index_or, take, Some, IfOk, OnOk, OnErr, Result, Ok, Err}
 use Rattle.layout.specs.Types.{Bytes, User}
 use Rattle.lms_sign.specs.Secret.{Secret}
-use Rattle.leaf_ledger.specs.Device.{History, MayLeave, started}
+use Rattle.leaf_ledger.specs.Device.{History, started}
 use Rattle.leaf_ledger.specs.Ledger.{LeafNumber}
 use Rattle.client_journal.specs.Records.{unsigned}
 use Rattle.version_order.specs.Structure.{Structure, structure}
 use Rattle.update_cert.specs.Cert.{Cert, cert}
 use Rattle.client_releases.specs.declared.error.ClientError.{ClientError}
 use Rattle.client_releases.specs.declared.phase.Phase.TheVariants as phase
+use Rattle.release_runs.specs.Crashes.{AreLeft, IsLeftOf}
 use Rattle.client_releases.specs.Releasing.{IsKept, IsOpening, IsTried, OthersStay, OwnDevices, cert_record, no_secret}
 use Rattle.client_releases.specs.Releasing.{structure_record, under}
 use Rattle.client_releases.specs.Told.{HasKey, IsReleased, IsToldBy, Released, secret_at, sent, signed_by}
@@ -151,19 +152,7 @@ pub record HasCommitted (s new : Released) : Type 0 where
   pub signed : s.phase ≡ phase.Signed
   pub state : new ≡ record s { phase = phase.Idle }
 
--- what a crash leaves of a file: its text, and no history
-pub record IsLeftOf (old new : History) : Type 0 where
-  pub text : Bytes
-  pub may : MayLeave old.now text
-  pub is : new ≡ started text
-
-abbrev pub AreLeft : List History → List History → Type 0
-AreLeft [] [] = Unit {0}
-AreLeft (old ∷ olds) (new ∷ news) = IsLeftOf old new × AreLeft olds news
-AreLeft [] (new ∷ news) = ⊥
-AreLeft (old ∷ olds) [] = ⊥
-
--- and on all devices
+-- what a crash leaves on all devices
 pub record IsLeft (before : Client) (p : Parts) : Type 0 where
   pub ledgers : AreLeft (ledgers_of before) p.ledgers
   pub journal : IsLeftOf (journal_of before) p.journal
