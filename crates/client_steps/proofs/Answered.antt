@@ -1,4 +1,4 @@
--- What `begin` and `sign` of a client ensure is what a step of it tells, wherever the answer lies in memory.
+-- What `begin`, `resign` and `sign` of a client ensure is what a step of it tells, wherever the answer lies in memory.
 use Rattle.std.proofs.Common.{◌≡◌, ◌≢◌, ℕ, ◌≤◌, List, Option, None, Some, Ok, Err, Result, IfOk, IfErr, OnOk, OnErr, true, length, ap, inl, inr}
 use Rattle.std.specs.Prelude.{◌↔◌, ◌⊎◌, IfSome, IsErrOf, IsSome}
 use Rattle.std.specs.Vec.{vec_items}
@@ -18,8 +18,8 @@ use Rattle.client_releases.specs.Told.{HasKey, IsKeyUsedUp}
 use Rattle.client_verify.specs.Laid.{are_laid}
 use Rattle.checked_blocks.specs.CheckedBlocks.{LetsGo}
 use Rattle.client_verify.specs.Holding.{LaysOut}
-use Rattle.client_verify.specs.State.{Ready, State, declared, declared_text, failed, newest_key, next_cert, next_structure, on, over, released, signed_over, signed_text, signer_of, signing_key}
-use Rattle.client_steps.specs.Steps.{HasBegun, HasSigned}
+use Rattle.client_verify.specs.State.{Ready, State, declared, declared_text, failed, newest_key, next_cert, next_structure, on, over, released, resigned, resigned_text, signed_over, signed_text, signer_of, signing_key}
+use Rattle.client_steps.specs.Steps.{HasBegun, HasResigned, HasSigned}
 use Rattle.client_steps.specs.Anywhere.{on_ok}
 
 -- the same error is told of both
@@ -98,6 +98,51 @@ module _ {A : Type 0} (s new : State) (changes : List (Change Digest)) (laid : L
         fails = λ h. fl (told_err (Err x) error.Device h);
         kept_device = λ h. kd (told_err (Err x) error.Device h);
         fits_device = λ h. fd (told_err (Err x) error.Device h);
+        only = only;
+        err = e;
+      }
+
+module _ {A : Type 0} (s new : State) where
+  pub resigned_by : (n : ℕ) (answer : Result (Vec ℕ A) ClientError)
+      → s.phase ≡ phase.Declared → HasKey n (released s)
+      → OnOk answer ((leaf : LeafNumber) × IsKept leaf (cert_record (resigned_text s n leaf)) (under n s.devices) (under n new.devices) × (new ≡ on new.devices (resigned s n leaf)))
+      → IfOk answer (λ x. x.items ≡ new.text)
+      → ((leaf : LeafNumber) → IsLeastFree (ledger_at n s.devices).file.now.text leaf → AnyMoment leaf (cert_record (resigned_text s n leaf)) (under n s.devices) (under n new.devices))
+      → OnErr answer (IsTried (λ leaf. cert_record (resigned_text s n leaf)) (under n s.devices) (under n new.devices))
+      → (IsErrOf answer error.NoLeaf ↔ IsKeyUsedUp n (released s))
+      → (IsErrOf answer error.Device → OneHasRisen (under n s.devices) (under n new.devices))
+      → OthersStay n s.devices new.devices
+      → (IsErrOf answer error.Device → new ≡ on new.devices (failed s))
+      → IfErr answer (λ e. (e ≢ error.NoNumber) × (e ≢ error.Foreign) × (e ≢ error.Damaged) × (e ≢ error.NoKey))
+      → IfErr answer (λ e. e ≢ error.Device → new ≡ s)
+      → HasResigned s n (on_ok vec_items answer) new
+  resigned_by n (Ok x) i h d t any tr nl r ot fl only e =
+      record {
+        declared = i;
+        has = h;
+        resigned = d;
+        text = t;
+        any_moment = any;
+        tried = tr;
+        no_leaf = told_errs (Ok x) error.NoLeaf (IsKeyUsedUp n (released s)) nl;
+        rose = λ is. r (told_err (Ok x) error.Device is);
+        others = ot;
+        fails = λ is. fl (told_err (Ok x) error.Device is);
+        only = only;
+        err = e;
+      }
+  resigned_by n (Err x) i h d t any tr nl r ot fl only e =
+      record {
+        declared = i;
+        has = h;
+        resigned = d;
+        text = t;
+        any_moment = any;
+        tried = tr;
+        no_leaf = told_errs (Err x) error.NoLeaf (IsKeyUsedUp n (released s)) nl;
+        rose = λ is. r (told_err (Err x) error.Device is);
+        others = ot;
+        fails = λ is. fl (told_err (Err x) error.Device is);
         only = only;
         err = e;
       }

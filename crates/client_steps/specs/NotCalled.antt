@@ -5,12 +5,17 @@ use Rattle.update_cert.specs.Change.{Change}
 use Rattle.update_cert.specs.declared.cert.TheConstants.{MOST_CHANGES}
 use Rattle.checked_blocks.specs.CheckedBlocks.{most_cached}
 use Rattle.client_releases.specs.declared.phase.Phase.TheVariants as phase
+use Rattle.client_releases.specs.Told.{HasKey}
 use Rattle.client_verify.specs.Laid.{are_laid}
-use Rattle.client_verify.specs.State.{State}
+use Rattle.client_verify.specs.State.{State, released}
 
 -- an operation is under way, the changes are too many, or what they need wasn't laid out
 abbrev pub CantBegin : State → List (Change Digest) → List Bytes → Type 0
 CantBegin s changes laid = (s.phase ≢ phase.Idle) ⊎ ((MOST_CHANGES < length changes) ⊎ (are_laid laid changes ≡ false))
+
+-- nothing is declared, or there is no such key
+abbrev pub CantResign : State → ℕ → Type 0
+CantResign s n = (s.phase ≢ phase.Declared) ⊎ (HasKey n (released s) → ⊥)
 
 -- no reply is waited for
 abbrev pub CantHear : State → Type 0

@@ -2,14 +2,13 @@
 --
 -- A crash inside a call is a call whose device fails, and then a crash: whatever part of the call was done by then is
 -- one that a device may have done that fails there.
-use Rattle.std.specs.Prelude.{◌≡◌, ◌≢◌, ◌⊎◌, ◌↔◌, ℕ, ◌<◌, ◌≤◌, List, [], ◌∷◌, length, map, Option, Some, None, IfOk, IfErr, IsErrOf, IfSome, IsSome, IsSomeAnd, OnOk, OnErr, Result, Ok, Err, true, IsOk}
+use Rattle.std.specs.Prelude.{◌≡◌, ◌≢◌, ◌⊎◌, ◌↔◌, ℕ, ◌<◌, ◌≤◌, List, [], ◌∷◌, ◌++◌, length, map, take, Option, Some, None, IfOk, IfErr, IsErrOf, IfSome, IsSome, IsSomeAnd, OnOk, OnErr, Result, Ok, Err, true, IsOk}
 use Rattle.layout.specs.Format.{IsBytes}
 use Rattle.layout.specs.Ranges.{last_version}
 use Rattle.layout.specs.Types.{Bytes, Digest, Key, Principal, User}
-use Rattle.lms_sign.specs.Keys.{public_key_of}
 use Rattle.lms_sign.specs.Secret.{Secret}
-use Rattle.leaf_ledger.specs.Device.{HasRisen, History, MayLeave, started}
-use Rattle.leaf_ledger.specs.Ledger.{IsForeign, IsLeastFree, LeafNumber}
+use Rattle.leaf_ledger.specs.Device.{HasRisen, History, started}
+use Rattle.leaf_ledger.specs.Ledger.{IsLeastFree, LeafNumber}
 use Rattle.client_journal.specs.Records.{IsDamaged}
 use Rattle.version_order.specs.Structure.{structure}
 use Rattle.update_cert.specs.Change.{Change}
@@ -23,14 +22,15 @@ use Rattle.wire.specs.declared.kinds.Status.{Status}
 use Rattle.client_releases.specs.declared.error.ClientError.{ClientError}
 use Rattle.client_releases.specs.declared.error.ClientError.TheVariants as error
 use Rattle.client_releases.specs.declared.phase.Phase.TheVariants as phase
-use Rattle.client_releases.specs.OwnKeys.{AreOpened, KeyFile}
+use Rattle.release_runs.specs.Crashes.{AreLeft, IsLeftOf}
+use Rattle.client_releases.specs.OwnKeys.{AreLater, AreOpened, KeyFile, OneIsForeign, OneOfHasRisen}
 use Rattle.client_releases.specs.Releasing.{AnyMoment, IsKept, IsOpening, IsTried, OneHasRisen, OthersStay, cert_record}
-use Rattle.client_releases.specs.Releasing.{ledger_at, no_secret, structure_record, under}
+use Rattle.client_releases.specs.Releasing.{ledger_at, structure_record, under}
 use Rattle.client_releases.specs.Told.{HasKey, IsKeyUsedUp, IsReleased, IsToldBy, TellsOfOther}
 use Rattle.client_verify.specs.declared.look.Look.{Look}
 use Rattle.client_verify.specs.declared.step.Step.{Step}
 use Rattle.client_verify.specs.Laid.{are_laid}
-use Rattle.client_verify.specs.State.{AreReplies, State, asked_of, committed, declared, declared_text, failed, newest_key, next_cert, next_structure, on, opened, over, released, signed_over, signed_text, signer_of, signing_key}
+use Rattle.client_verify.specs.State.{AreReplies, State, asked_of, committed, declared, declared_text, failed, newest_key, next_cert, next_structure, on, opened, over, released, resigned, resigned_text, signed_over, signed_text, signer_of, signing_key}
 use Rattle.reply_check.specs.AskedBlock.{block_breaks}
 use Rattle.client_verify.specs.Holding.{HoldsAfter, LaysOut, LookHoldsAfter, with_cache}
 use Rattle.client_verify.specs.Judged.{Handed, Judged}
@@ -43,9 +43,10 @@ pub record Device : Type 0 where
   pub history : History
   pub faults : ℕ
 
--- what a client with one key is opened over, and hands back
+-- what a client is opened over, and hands back: the devices of its keys' ledgers, the first key's first, and that of
+-- the journal
 pub record Parts : Type 0 where
-  pub ledger : Device
+  pub ledgers : List Device
   pub journal : Device
 
 -- the client of a user: its parts, while it is closed; or its state
@@ -57,47 +58,55 @@ pub data Client : Type 0 where
 abbrev pub empty : Device
 empty = record { history = started []; faults = 0 }
 
--- before anything happens
+-- before anything happens: one ledger, and devices that hold nothing
 abbrev pub first : Client
-first = Closed (record { ledger = empty; journal = empty })
+first = Closed (record { ledgers = empty ∷ []; journal = empty })
 
--- the file of the ledger, and that of the journal
-abbrev pub ledger_of : Client → History
-ledger_of (Closed p) = p.ledger.history
-ledger_of (Open s) = (ledger_at 0 s.devices).file
+-- what devices hold and held, and how often each has failed
+abbrev pub files_of : List Device → List History
+files_of devices = map (λ d. d.history) devices
+
+abbrev pub faults_of : List Device → List ℕ
+faults_of devices = map (λ d. d.faults) devices
+
+-- the files of the ledgers, and that of the journal
+abbrev pub ledgers_of : Client → List History
+ledgers_of (Closed p) = files_of p.ledgers
+ledgers_of (Open s) = map (λ l. l.file) s.devices.ledgers
 
 abbrev pub journal_of : Client → History
 journal_of (Closed p) = p.journal.history
 journal_of (Open s) = s.devices.journal.file
 
--- the device of the one key's ledger, of a key with its device and no other, and what that key is made of
-abbrev pub ledger_in : {D : Type 0} → (D → History) → (D → ℕ) → List (Secret × D) → Device
-ledger_in history faults [] = empty
-ledger_in history faults (k ∷ keys) = record { history = history k.1; faults = faults k.1 }
+-- of keys with the devices of their ledgers: what each key is made of, and the devices
+abbrev pub secrets_in : {D : Type 0} → List (Secret × D) → List Secret
+secrets_in keys = map (λ k. k.0) keys
 
-abbrev pub secret_in : {D : Type 0} → List (Secret × D) → Secret
-secret_in [] = no_secret
-secret_in (k ∷ keys) = k.0
+abbrev pub ledgers_in : {D : Type 0} → (D → History) → (D → ℕ) → List (Secret × D) → List Device
+ledgers_in history faults keys = map (λ k. record { history = history k.1; faults = faults k.1 }) keys
 
 -- the client that is closed, over these devices
-abbrev pub closed_over : Device → Device → Client
-closed_over ledger journal = Closed (record { ledger = ledger; journal = journal })
+abbrev pub closed_over : List Device → Device → Client
+closed_over ledgers journal = Closed (record { ledgers = ledgers; journal = journal })
 
--- whose client it is: the user, what its one key is made of, and user 0's public key
+-- whose client it is: the user, what all keys are made of that it may have, the first key first, and user 0's public key
 pub record Owner : Type 0 where
   pub user : User
-  pub secret : Secret
+  pub secrets : List Secret
   pub pinned : Key
 
-abbrev pub owner_of : User → Secret → Key → Owner
-owner_of user secret pinned = record { user = user; secret = secret; pinned = pinned }
+-- It is this user's with this public key of user 0, and its first keys are made of these.
+pub record HasFirst (user : User) (pinned : Key) (secrets : List Secret) (o : Owner) : Type 0 where
+  pub user_is : o.user ≡ user
+  pub pinned_is : o.pinned ≡ pinned
+  pub first : take (length secrets) o.secrets ≡ secrets
 
-abbrev pub own_key : Owner → Key
-own_key o = public_key_of o.secret
-
--- the own key with the device of its ledger
-abbrev pub own_file : Owner → Device → KeyFile
-own_file o d = record { secret = o.secret; file = d.history; faults = d.faults }
+-- the first keys with the devices of their ledgers, as many as there are
+abbrev pub own_files : List Secret → List Device → List KeyFile
+own_files [] devices = []
+own_files (secret ∷ secrets) [] = []
+own_files (secret ∷ secrets) (d ∷ devices) =
+    record { secret = secret; file = d.history; faults = d.faults } ∷ own_files secrets devices
 
 -- what a client asks for, and what it sees, wherever that lies in memory
 abbrev pub Asks : Type 0
@@ -106,11 +115,13 @@ Asks = Step (Unit {0})
 abbrev pub Sees : Type 0
 Sees = Look (Unit {0})
 
--- a call with its arguments and its answer, or a crash
+-- a call with its arguments and its answer, a ledger more for a client that is closed, or a crash
 pub data Call : Type 0 where
   Opens : Result (Unit {0}) ClientError → Call
   Closes : Call
+  Gains : Call
   Begins : List (Change Digest) → List Bytes → Result Bytes ClientError → Call
+  Resigns : ℕ → Result Bytes ClientError → Call
   Hears : Bytes → Result Asks ClientError → Call
   Takes : Option Bytes → Result Asks ClientError → Call
   Signs : Result Bytes ClientError → Call
@@ -122,34 +133,41 @@ pub data Call : Type 0 where
 
 -- ---- what each call may leave
 
+-- Opened are the ledgers of the first keys, as many as there are.
 pub record IsOpened (o : Owner) (p : Parts) (new : State) : Type 0 where
   pub state : new ≡ opened o.pinned (released new)
   pub user : new.user ≡ o.user
-  pub secrets : new.secrets ≡ o.secret ∷ []
+  pub secrets : new.secrets ≡ take (length p.ledgers) o.secrets
   pub told : IsToldBy p.journal.history.now.text (released new)
-  pub ledgers : AreOpened (own_file o p.ledger ∷ []) new.devices.ledgers
-  pub moments : IsOpening (p.ledger.history ∷ []) p.journal.history (map (λ l. l.file) new.devices.ledgers)
+  pub ledgers : AreOpened (own_files o.secrets p.ledgers) new.devices.ledgers
+  pub moments : IsOpening (files_of p.ledgers) p.journal.history (map (λ l. l.file) new.devices.ledgers)
       new.devices.journal.file
   pub journal_later : p.journal.faults ≤ new.devices.journal.faults
 
 pub record IsRefused (o : Owner) (p : Parts) (e : ClientError) (new : Parts) : Type 0 where
-  pub moments : IsOpening (p.ledger.history ∷ []) p.journal.history (new.ledger.history ∷ []) new.journal.history
-  pub foreign : e ≡ error.Foreign → IsForeign (own_key o) p.ledger.history.now.text
+  pub moments : IsOpening (files_of p.ledgers) p.journal.history (files_of new.ledgers) new.journal.history
+  pub foreign : e ≡ error.Foreign → OneIsForeign (own_files o.secrets p.ledgers)
   pub damaged : e ≡ error.Damaged → IsDamaged p.journal.history.now.text
       ⊎ TellsOfOther o.user p.journal.history.now.text
-  pub device : e ≡ error.Device → HasRisen p.ledger.faults new.ledger.faults
+  pub device : e ≡ error.Device → OneOfHasRisen (faults_of p.ledgers) (faults_of new.ledgers)
       ⊎ HasRisen p.journal.faults new.journal.faults
   pub leaves : e ≢ error.NoLeaf
   pub numbers : e ≢ error.NoNumber
   pub keys : e ≢ error.NoKey
-  pub ledger_later : p.ledger.faults ≤ new.ledger.faults
+  pub ledgers_later : AreLater (faults_of p.ledgers) (faults_of new.ledgers)
   pub journal_later : p.journal.faults ≤ new.journal.faults
 
 pub record IsHandedBack (s : State) (p : Parts) : Type 0 where
-  pub ledger : p.ledger.history ≡ (ledger_at 0 s.devices).file
+  pub ledgers : files_of p.ledgers ≡ map (λ l. l.file) s.devices.ledgers
   pub journal : p.journal.history ≡ s.devices.journal.file
-  pub ledger_faults : p.ledger.faults ≡ (ledger_at 0 s.devices).faults
+  pub ledger_faults : faults_of p.ledgers ≡ map (λ l. l.faults) s.devices.ledgers
   pub journal_faults : p.journal.faults ≡ s.devices.journal.faults
+
+-- A ledger more that holds nothing, for the next key.
+pub record HasGained (o : Owner) (p new : Parts) : Type 0 where
+  pub fewer : length p.ledgers < length o.secrets
+  pub ledgers : new.ledgers ≡ p.ledgers ++ empty ∷ []
+  pub journal : new.journal ≡ p.journal
 
 pub record HasBegun (s : State) (changes : List (Change Digest)) (laid : List Bytes) (answer : Result Bytes ClientError)
     (new : State) : Type 0 where
@@ -178,6 +196,25 @@ pub record HasBegun (s : State) (changes : List (Change Digest)) (laid : List By
   pub kept_device : IsErrOf answer error.Device → LaysOut s laid new.blocks
   pub fits_device : IsErrOf answer error.Device → cert.Fits (next_cert s changes)
   pub only : IfErr answer (λ e. (e ≢ error.Foreign) × (e ≢ error.Damaged) × (e ≢ error.NoKey))
+  pub err : IfErr answer (λ e. e ≢ error.Device → new ≡ s)
+
+-- The certificate that is declared was signed once more, by this key.
+pub record HasResigned (s : State) (n : ℕ) (answer : Result Bytes ClientError) (new : State) : Type 0 where
+  pub declared : s.phase ≡ phase.Declared
+  pub has : HasKey n (released s)
+  pub resigned : OnOk answer ((leaf : LeafNumber)
+      × IsKept leaf (cert_record (resigned_text s n leaf)) (under n s.devices) (under n new.devices)
+      × (new ≡ on new.devices (resigned s n leaf)))
+  pub text : IfOk answer (λ text. text ≡ new.text)
+  pub any_moment : (leaf : LeafNumber) → IsLeastFree (ledger_at n s.devices).file.now.text leaf
+      → AnyMoment leaf (cert_record (resigned_text s n leaf)) (under n s.devices) (under n new.devices)
+  pub tried : OnErr answer (IsTried (λ leaf. cert_record (resigned_text s n leaf)) (under n s.devices)
+      (under n new.devices))
+  pub no_leaf : IsErrOf answer error.NoLeaf ↔ IsKeyUsedUp n (released s)
+  pub rose : IsErrOf answer error.Device → OneHasRisen (under n s.devices) (under n new.devices)
+  pub others : OthersStay n s.devices new.devices
+  pub fails : IsErrOf answer error.Device → new ≡ on new.devices (failed s)
+  pub only : IfErr answer (λ e. (e ≢ error.NoNumber) × (e ≢ error.Foreign) × (e ≢ error.Damaged) × (e ≢ error.NoKey))
   pub err : IfErr answer (λ e. e ≢ error.Device → new ≡ s)
 
 pub record HasHeard (s : State) (text : Bytes) (answer : Result Asks ClientError) (new : State) : Type 0 where
@@ -259,14 +296,10 @@ pub record HasCached (s : State) (capacity : ℕ) (new : State) : Type 0 where
   pub fits : capacity ≤ most_cached
   pub state : new ≡ with_cache capacity s
 
--- what a crash leaves on both devices; whoever finds it counts its faults anew
+-- what a crash leaves on all devices; whoever finds it counts their faults anew
 pub record IsLeft (before : Client) (p : Parts) : Type 0 where
-  pub ledger_text : Bytes
-  pub journal_text : Bytes
-  pub ledger_may : MayLeave (ledger_of before).now ledger_text
-  pub journal_may : MayLeave (journal_of before).now journal_text
-  pub ledger : p.ledger.history ≡ started ledger_text
-  pub journal : p.journal.history ≡ started journal_text
+  pub ledgers : AreLeft (ledgers_of before) (files_of p.ledgers)
+  pub journal : IsLeftOf (journal_of before) p.journal.history
 
 -- ---- steps
 
@@ -274,6 +307,7 @@ pub record IsLeft (before : Client) (p : Parts) : Type 0 where
 abbrev pub FromClosed : Owner → Parts → Call → Client → Type 0
 FromClosed o p (Opens (Ok x)) (Open s) = IsOpened o p s
 FromClosed o p (Opens (Err e)) (Closed q) = IsRefused o p e q
+FromClosed o p Gains (Closed q) = HasGained o p q
 FromClosed o p Crashes (Closed q) = IsLeft (Closed p) q
 FromClosed o p call after = ⊥
 
@@ -282,6 +316,7 @@ abbrev pub FromOpen : State → Call → Client → Type 0
 FromOpen s Closes (Closed p) = IsHandedBack s p
 FromOpen s Crashes (Closed p) = IsLeft (Open s) p
 FromOpen s (Begins changes laid answer) (Open new) = HasBegun s changes laid answer new
+FromOpen s (Resigns n answer) (Open new) = HasResigned s n answer new
 FromOpen s (Hears text answer) (Open new) = HasHeard s text answer new
 FromOpen s (Takes block answer) (Open new) = HasTaken s block answer new
 FromOpen s (Signs answer) (Open new) = HasSigned s answer new

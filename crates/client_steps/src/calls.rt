@@ -1,18 +1,18 @@
 //! The calls of a client that a step makes, where it may.
 
 ghost use Rattle.std.specs.Prelude.{Err, IfErr, Ok};
-ghost use Rattle.std.specs.Prelude.{◌≡◌, ◌≢◌, ◌≤◌, IfOk, IfSome, IsSome, MatchOption, OnOk, false, length, map, true};
+ghost use Rattle.std.specs.Prelude.{◌≡◌, ◌≢◌, ◌<◌, ◌≤◌, IfOk, IfSome, IsSome, MatchOption, OnOk, false, length, map, true};
 ghost use Rattle.std.specs.Option.{option_copied};
 ghost use Rattle.std.specs.Vec.{vec_items};
 ghost use Rattle.layout.specs.Format.{IsBytes};
 ghost use Rattle.client_tree.specs.declared.questions.Question.TheVariants.{At, Free, Kind};
 ghost use Rattle.client_steps.specs.Steps.{HasBegun, HasCached, HasCommitted, HasGiven, HasHeard, HasLooked};
-ghost use Rattle.client_steps.specs.Steps.{HasSigned, HasTaken};
-ghost use Rattle.client_steps.specs.Steps.{Closes, IsSound, IsStep, Open, Opens, Owner, closed_over, ledger_in};
-ghost use Rattle.client_steps.specs.Steps.{owner_of, secret_in};
+ghost use Rattle.client_steps.specs.Steps.{HasResigned, HasSigned, HasTaken};
+ghost use Rattle.client_steps.specs.Steps.{Closes, HasFirst, IsSound, IsStep, Open, Opens, Owner, closed_over};
+ghost use Rattle.client_steps.specs.Steps.{ledgers_in, secrets_in};
 ghost use Rattle.client_steps.specs.Anywhere.{asked, on_ok, seen};
 ghost use Rattle.client_steps.specs.NotCalled.{CantBegin, CantCache, CantCommit, CantGive, CantHear, CantLook};
-ghost use Rattle.client_steps.specs.NotCalled.{CantSign, CantTake};
+ghost use Rattle.client_steps.specs.NotCalled.{CantResign, CantSign, CantTake};
 
 use checked_blocks::MOST_CACHED;
 use client_verify::{Client, ClientError, Look, Parts, Phase, Step, are_laid};
@@ -30,18 +30,19 @@ pub fn open<L: Device, J: Device, A: Allocator + Copy>(
     pinned: PublicKey,
     parts: Parts<L, J, A>,
 ) -> Result<Client<L, J, A>, (ClientError, Parts<L, J, A>)>
-    requires { length parts.keys.items ≡ 1 }
-    ensures opened { IfOk result (λ client. IsStep (owner_of user (secret_in parts.keys.items) pinned)
-        (closed_over (ledger_in L.history L.fault_count parts.keys.items)
+    requires { 0 < length parts.keys.items }
+    ensures opened { IfOk result (λ client. (o : Owner) → HasFirst user pinned (secrets_in parts.keys.items) o
+        → IsStep o (closed_over (ledgers_in L.history L.fault_count parts.keys.items)
         (record { history = J.history parts.journal; faults = J.fault_count parts.journal }))
         (Opens (Ok tt)) (Open client)) }
+    ensures secrets { IfOk result (λ client. client.secrets ≡ secrets_in parts.keys.items) }
     ensures sound { IfOk result (λ client. IsSound (Open client)) }
-    ensures refused { IfErr result (λ e. IsStep (owner_of user (secret_in parts.keys.items) pinned)
-        (closed_over (ledger_in L.history L.fault_count parts.keys.items)
+    ensures refused { IfErr result (λ e. (o : Owner) → HasFirst user pinned (secrets_in parts.keys.items) o
+        → IsStep o (closed_over (ledgers_in L.history L.fault_count parts.keys.items)
         (record { history = J.history parts.journal; faults = J.fault_count parts.journal })) (Opens (Err e.0))
-        (closed_over (ledger_in L.history L.fault_count e.1.keys.items)
+        (closed_over (ledgers_in L.history L.fault_count e.1.keys.items)
         (record { history = J.history e.1.journal; faults = J.fault_count e.1.journal }))) }
-    ensures key { IfErr result (λ e. map (λ k. k.0) e.1.keys.items ≡ map (λ k. k.0) parts.keys.items) }
+    ensures keys { IfErr result (λ e. secrets_in e.1.keys.items ≡ secrets_in parts.keys.items) }
 {
     let Parts { keys, journal } = parts;
     let opened = Client::open(alloc, user, keys, pinned, journal);
@@ -64,9 +65,9 @@ fn is_sound<L: Device, J: Device, A: Allocator + Copy>(
 /// Closes an open client, and hands back what it was opened over.
 pub fn close<L: Device, J: Device, A: Allocator + Copy>(client: Client<L, J, A>) -> Parts<L, J, A>
     ensures closed { (o : Owner) → IsStep o (Open client) Closes
-        (closed_over (ledger_in L.history L.fault_count result.keys.items)
+        (closed_over (ledgers_in L.history L.fault_count result.keys.items)
         (record { history = J.history result.journal; faults = J.fault_count result.journal })) }
-    ensures key { map (λ k. k.0) result.keys.items ≡ client.secrets }
+    ensures keys { secrets_in result.keys.items ≡ client.secrets }
 {
     client.type_invariant();
     client.close()
@@ -95,6 +96,21 @@ pub fn begin<L: Device, J: Device, A: Allocator + Copy>(
         return Ok(None);
     }
     Ok(Some(client.begin(changes, laid)))
+}
+
+/// Signs the certificate that is declared once more, by the key of this number, where something is declared and there
+/// is such a key.
+pub fn resign<L: Device, J: Device, A: Allocator + Copy>(
+    client: &mut Client<L, J, A>,
+    key: usize,
+) -> Option<Result<Vec<u8, A>, ClientError>>
+    ensures { MatchOption result ((client.new ≡ client.old) × CantResign client.old key)
+        (λ answer. HasResigned client.old key (on_ok vec_items answer) client.new) }
+{
+    if client.phase() != Phase::Declared || key >= client.key_count() {
+        return None;
+    }
+    Some(client.resign(key))
 }
 
 /// Hands a reply in, where one is waited for.

@@ -5,5 +5,6 @@
 mod calls;
 
 pub use calls::{
-    begin, cache, close, commit, free, give, hear, kind, look, open, sign, take, type_invariant,
+    begin, cache, close, commit, free, give, hear, kind, look, open, resign, sign, take,
+    type_invariant,
 };
