@@ -11,9 +11,9 @@ use Rattle.client_runs.specs.declared.world.Act.{Act}
 use Rattle.client_runs.specs.declared.world.Answer.{Answer}
 use Rattle.client_runs.specs.declared.world.WorldStep.{WorldStep}
 use Rattle.client_steps.specs.Steps.{Client, Owner, first}
-use Rattle.client_runs.specs.Runs.{owner, public_key}
+use Rattle.client_runs.specs.Runs.{owner, pinned}
 use Rattle.client_runs.specs.UsedOnce.{CertificatesOnce, EachClient, LeavesOnce, StructuresOnce}
-use Rattle.client_runs.specs.Carried.{AreCarriedOut, ComesOf, script_keys}
+use Rattle.client_runs.specs.Carried.{AreCarriedOut, ComesOf, script_key, script_keys}
 use Rattle.client_runs.specs.Clients.{client_at}
 use Rattle.client_runs.specs.Slots.{AreOwn, AreReady, IsOf, client_in, clients_in}
 use Rattle.client_runs.proofs.OneMore.{StandsSoFar, more}
@@ -76,12 +76,9 @@ in_table (s ∷ slots) (suc u) = in_table slots u
 pub none_named : {A : Type 0} (slots : List (Slot A)) → ((u : ℕ) → get_or slots u slot.Unmade ≡ slot.Unmade) → (u : ℕ) → client_at (clients_in slots) u ≡ first
 none_named {A} slots none u = in_table slots u ∙ ap (λ (z : Slot A). client_in z) (none u)
 
--- the key of the first user is the one that every client knows
-by_name : (u : User) → u ≡ 0 → public_key script_keys u ≡ public_key script_keys 0
-by_name u is = ap (λ (n : User). public_key script_keys n) is
-
-pub pinned_by : (key : Key) (u : User) (secret : Secret) → key ≡ public_key_of secret → secret ≡ script_keys u → u ≡ 0 → key ≡ public_key script_keys 0
-pinned_by key u secret made same is = made ∙ ap public_key_of same ∙ by_name u is
+-- the key that every client knows
+pub pinned_by : (key : Key) (u : User) (secret : Secret) → key ≡ public_key_of secret → secret ≡ script_key u 0 → u ≡ 0 → key ≡ pinned script_keys
+pinned_by key u secret made same is = made ∙ ap public_key_of same ∙ ap (λ (n : User). public_key_of (script_key n 0)) is
 
 -- a table whose slot at one place is taken out, and another put there
 module _ {A : Type 0} (slots : List (Slot A)) (place : ℕ) (within : place < length slots) (x y : Slot A) where

@@ -7,6 +7,8 @@ pub mod OfUsers
 pub mod Same
 pub mod OneMore
 pub mod NotTaken
+pub mod Gaining
+pub mod Places
 pub mod Telling
 pub mod Taking
 pub mod Ended

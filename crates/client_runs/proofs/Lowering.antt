@@ -1,68 +1,48 @@
 -- What a client's calls are to client_releases.
-use Rattle.std.proofs.Common.{◌≡◌, ◌<◌, ℕ, zero, suc, List, [], ◌∷◌, length, map, take, get_or, Option, Some, None, Result, Ok, Err, IfSome, IsSome, inl, inr, refl, sym, ap, ◌∙◌, subst, arith}
+use Rattle.std.proofs.Common.{◌≡◌, ◌<◌, ℕ, List, [], ◌∷◌, length, take, Option, Some, None, Result, Ok, Err, IfSome, IsSome, inl, inr, refl, sym, ap, ◌∙◌, subst, arith}
+use Rattle.std.proofs.lemmas.List.{length-map, map-append}
 use Rattle.std.specs.Prelude.{◌⊎◌, IsErrOf}
 use Rattle.layout.specs.Types.{Bytes, Digest}
-use Rattle.lms_sign.specs.Secret.{Secret}
-use Rattle.leaf_ledger.specs.Device.{History}
-use Rattle.leaf_ledger.specs.Ledger.{LeafNumber, LedgerState}
+use Rattle.leaf_ledger.specs.Ledger.{LeafNumber}
 use Rattle.version_order.specs.Structure.{structure}
 use Rattle.update_cert.specs.Change.{Change}
 use Rattle.client_releases.specs.declared.error.ClientError.{ClientError}
 use Rattle.client_releases.specs.declared.error.ClientError.TheVariants as error
-use Rattle.client_releases.specs.Releasing.{IsKept, IsTried, OthersStay, ledger_at, no_ledger, structure_record, under}
-use Rattle.client_releases.specs.Told.{HasKey, IsReleased}
+use Rattle.client_releases.specs.Releasing.{IsKept, IsTried, OthersStay, structure_record, under}
+use Rattle.client_releases.specs.Told.{HasKey}
 use Rattle.release_runs.specs.Steps as low
 use Rattle.client_verify.specs.State.{IsOfDeclared, Ready, State, newest_key, next_cert, next_structure, on, over, released, signed_over, signed_text, signing_key}
-use Rattle.client_steps.specs.Steps.{Client, Closed, HasBegun, HasSigned, IsHandedBack, IsLeft, IsOpened, IsSound, Open, Owner, Parts}
+use Rattle.client_steps.specs.Steps.{Client, Closed, Device, HasBegun, HasGained, HasResigned, HasSigned, IsHandedBack, IsLeft, IsOpened, IsSound, Open, Owner, Parts, empty, files_of}
 
 -- the owner, the devices and the client, as client_releases has them
 abbrev pub low_owner : Owner → low.Owner
-low_owner o = record { user = o.user; secrets = o.secret ∷ [] }
+low_owner o = record { user = o.user; secrets = o.secrets }
 
 abbrev pub low_parts : Parts → low.Parts
-low_parts p = record { ledgers = p.ledger.history ∷ []; journal = p.journal.history }
+low_parts p = record { ledgers = files_of p.ledgers; journal = p.journal.history }
 
 abbrev pub low_client : Client → low.Client
 low_client (Closed p) = low.Closed (low_parts p)
 low_client (Open s) = low.Open (released s)
 
--- an open client with one ledger
-abbrev pub HasOneLedger : Client → Type 0
-HasOneLedger (Closed p) = Unit {0}
-HasOneLedger (Open s) = s.devices.ledgers ≡ ledger_at 0 s.devices ∷ []
-
--- which is so where it has the owner's key
-pub one_ledger : (s : State) (secret : Secret) → IsReleased (released s) → (opened : ℕ) → s.secrets ≡ take opened (secret ∷ []) → HasOneLedger (Open s)
-one_ledger s secret is opened own = go opened s.devices.ledgers own is.some is.as_many
-  where
-    go : (n : ℕ) (ledgers : List LedgerState) → s.secrets ≡ take n (secret ∷ []) → 0 < length s.secrets → length ledgers ≡ length s.secrets → ledgers ≡ get_or ledgers 0 no_ledger ∷ []
-    go zero ledgers keys some size = absurd (omega (arith, some, ap length keys))
-    go (suc n) [] keys some size = absurd (omega (arith, some, size))
-    go (suc n) (l ∷ []) keys some size = refl
-    go (suc zero) (l ∷ (m ∷ ledgers)) keys some size = absurd (omega (arith, size, ap length keys))
-    go (suc (suc n)) (l ∷ (m ∷ ledgers)) keys some size = absurd (omega (arith, size, ap length keys))
-
-abbrev pub files : State → List History
-files s = map (λ l. l.file) s.devices.ledgers
-
-files_one : (s : State) → HasOneLedger (Open s) → files s ≡ (ledger_at 0 s.devices).file ∷ []
-files_one s one = ap (λ (l : List LedgerState). map (λ (x : LedgerState). x.file) l) one
-
-pub low_left : (before : Client) (p : Parts) → HasOneLedger before → IsLeft before p → low.IsLeft (low_client before) (low_parts p)
-low_left (Closed q) p one is = record {
-  ledgers = (record { text = is.ledger_text; may = is.ledger_may; is = is.ledger }, tt);
-  journal = record { text = is.journal_text; may = is.journal_may; is = is.journal };
-}
-low_left (Open s) p one is = record {
-  ledgers = subst (λ (l : List History). low.AreLeft l (p.ledger.history ∷ [])) (sym (files_one s one)) (record { text = is.ledger_text; may = is.ledger_may; is = is.ledger }, tt);
-  journal = record { text = is.journal_text; may = is.journal_may; is = is.journal };
-}
+pub low_left : (before : Client) (p : Parts) → IsLeft before p → low.IsLeft (low_client before) (low_parts p)
+low_left (Closed q) p is = record { ledgers = is.ledgers; journal = is.journal }
+low_left (Open s) p is = record { ledgers = is.ledgers; journal = is.journal }
 
 pub low_opened : (o : Owner) (p : Parts) (s : State) → IsOpened o p s → low.IsOpened (low_owner o) (low_parts p) (released s)
-low_opened o p s is = record { user = is.user; secrets = is.secrets; told = is.told; moments = is.moments }
+low_opened o p s is =
+    let size : length p.ledgers ≡ length (files_of p.ledgers) = sym (length-map p.ledgers (λ (d : Device). d.history)) in
+    record { user = is.user; secrets = is.secrets ∙ ap (λ n. take n o.secrets) size; told = is.told; moments = is.moments }
 
-pub low_handed_back : (s : State) (p : Parts) → HasOneLedger (Open s) → IsHandedBack s p → low.IsHandedBack (released s) (low_parts p)
-low_handed_back s p one is = record { ledgers = ap (λ (h : History). h ∷ []) is.ledger ∙ sym (files_one s one); journal = is.journal }
+pub low_handed_back : (s : State) (p : Parts) → IsHandedBack s p → low.IsHandedBack (released s) (low_parts p)
+low_handed_back s p is = record { ledgers = is.ledgers; journal = is.journal }
+
+pub low_gained : (o : Owner) (p q : Parts) → HasGained o p q → low.HasGained (low_owner o) (low_parts p) (low_parts q)
+low_gained o p q is = record {
+  fewer = subst (λ n. n < length o.secrets) (sym (length-map p.ledgers (λ (d : Device). d.history))) is.fewer;
+  ledgers = ap files_of is.ledgers ∙ map-append (λ (d : Device). d.history) p.ledgers (empty ∷ []);
+  journal = ap (λ (d : Device). d.history) is.journal;
+}
 
 -- ---- certificates
 
@@ -77,6 +57,13 @@ module _ (s new : State) (some : HasKey 0 (released s)) (changes : List (Change 
 
   pub low_begin_failed : HasBegun s changes laid (Err error.Device) new → low.HasDeclared (released s) (newest_key s) (next_cert s changes) (Err error.Device) (released new)
   low_begin_failed b = record { idle = b.idle; has = newest_held s some; fits = b.fits_device refl; user = refl; declared = tt; text = tt; tried = b.tried; others = b.others; err = ap released (b.fails refl) }
+
+module _ (s new : State) (n : ℕ) where
+  pub low_resigned : (text : Bytes) → HasResigned s n (Ok text) new → low.HasResigned (released s) n (Ok text) (released new)
+  low_resigned text b = record { declared = b.declared; has = b.has; resigned = (b.resigned.0, b.resigned.1, ap released b.resigned.2); text = b.text; tried = tt; others = b.others; err = tt }
+
+  pub low_resign_failed : HasResigned s n (Err error.Device) new → low.HasResigned (released s) n (Err error.Device) (released new)
+  low_resign_failed b = record { declared = b.declared; has = b.has; resigned = tt; text = tt; tried = b.tried; others = b.others; err = ap released (b.fails refl) }
 
 -- ---- structures
 

@@ -1,5 +1,5 @@
 -- What a client releases in a run, as a run of client_releases: each call is a step of that, or leaves what was released.
-use Rattle.std.proofs.Common.{◌≡◌, ◌≢◌, Bool, true, false, ◌==◌, List, [], ◌∷◌, ◌++◌, Ok, Err, refl, sym, ap, ◌∙◌, subst, if◌then◌else◌}
+use Rattle.std.proofs.Common.{◌≡◌, ◌≢◌, ℕ, Bool, true, false, ◌==◌, List, [], ◌∷◌, ◌++◌, Ok, Err, refl, sym, ap, ◌∙◌, subst, if◌then◌else◌}
 use Rattle.std.proofs.lemmas.Bool.{eqb-true}
 use Rattle.layout.specs.Types.{Bytes, Digest, User}
 use Rattle.update_cert.specs.Change.{Change}
@@ -10,13 +10,11 @@ use Rattle.client_releases.specs.declared.error.ClientError.TheVariants as error
 use Rattle.release_runs.specs.Steps as low
 use Rattle.release_runs.specs.Runs as low_run
 use Rattle.release_runs.specs.Released as low_released
-use Rattle.release_runs.proofs.Holds as low_holds
-use Rattle.release_runs.proofs.Runs as low_runs
 use Rattle.client_verify.specs.State.{State, newest_key, next_cert, next_structure, released, signing_key}
-use Rattle.client_steps.specs.Steps.{Begins, Caches, Call, Client, Closed, Closes, Commits, Crashes, Gives, HasBegun, HasCommitted, HasSigned, Hears, IsSound, IsStep, Looks, Open, Opens, Owner, Signs, Takes, first}
+use Rattle.client_steps.specs.Steps.{Begins, Caches, Call, Client, Closed, Closes, Commits, Crashes, Gains, Gives, HasBegun, HasCommitted, HasResigned, HasSigned, Hears, IsSound, IsStep, Looks, Open, Opens, Owner, Resigns, Signs, Takes, first}
 use Rattle.client_runs.specs.Runs.{Event, IsRun, Keys, client_of, owner}
 use Rattle.client_runs.specs.Released.{released as released_in, released_by}
-use Rattle.client_runs.proofs.Lowering.{HasOneLedger, low_begin_failed, low_begun, low_client, low_handed_back, low_left, low_opened, low_owner, low_sign_failed, low_signed, one_ledger, with_ready}
+use Rattle.client_runs.proofs.Lowering.{low_begin_failed, low_begun, low_client, low_gained, low_handed_back, low_left, low_opened, low_owner, low_resign_failed, low_resigned, low_sign_failed, low_signed, with_ready}
 use Rattle.client_runs.proofs.Quiet.{gives, hears, looks, takes}
 use Rattle.client_runs.proofs.Replies.{Kept}
 
@@ -50,13 +48,6 @@ module _ (o : Owner) where
       texts_are = ap (λ l. low_released.released_by call (low_client after) ++ l) m.texts_are;
     }
 
-  -- it has one ledger
-  has_one : (texts : List Bytes) (s : State) → Mirrors o (Open s) texts → IsSound (Open s) → HasOneLedger (Open s)
-  has_one texts s m was =
-      let held = (low_runs.holds (low_owner o) m.run m.is_run).held in
-      let own = subst (λ (c : low.Client). low_holds.IsOwnClient (low_owner o) (low_runs.holds (low_owner o) m.run m.is_run).story (low_runs.holds (low_owner o) m.run m.is_run).tried c) m.after held.own in
-      one_ledger s o.secret was.0 own.opened own.secrets
-
   -- ---- calls
 
   module _ (texts : List Bytes) (s : State) (m : Mirrors o (Open s) texts) (was : IsSound (Open s)) (new : State) (sound : IsSound (Open new)) where
@@ -72,6 +63,16 @@ module _ (o : Owner) where
 
       begin_refused : (e : ClientError) → e ≢ error.Device → HasBegun s changes laid (Err e) new → Mirrors o (Open new) texts
       begin_refused e other b = same_as (b.err other)
+
+    module _ (n : ℕ) where
+      resigns : (text : Bytes) → HasResigned s n (Ok text) new → Mirrors o (Open new) (text ∷ texts)
+      resigns text b = moves texts (Open s) m (low.Resigns n (Ok text)) (Open new) (low_resigned s new n text b) sound.0 tt
+
+      resign_fails : HasResigned s n (Err error.Device) new → Mirrors o (Open new) texts
+      resign_fails b = moves texts (Open s) m (low.Resigns n (Err error.Device)) (Open new) (low_resign_failed s new n b) sound.0 tt
+
+      resign_refused : (e : ClientError) → e ≢ error.Device → HasResigned s n (Err e) new → Mirrors o (Open new) texts
+      resign_refused e other b = same_as (b.err other)
 
     signs : (text : Bytes) → HasSigned s (Ok text) new → Mirrors o (Open new) (text ∷ texts)
     signs text b =
@@ -96,10 +97,11 @@ module _ (o : Owner) where
   step texts (Closed p) (Opens (Ok x)) (Open s) m was is sound =
       moves texts (Closed p) m (low.Opens (Ok x)) (Open s) (low_opened o p s is) sound.0 tt
   step texts (Closed p) (Opens (Err e)) (Closed q) m was is sound = moves texts (Closed p) m (low.Opens (Err e)) (Closed q) is.moments tt tt
-  step texts (Closed p) Crashes (Closed q) m was is sound = moves texts (Closed p) m low.Crashes (Closed q) (low_left (Closed p) q tt is) tt tt
+  step texts (Closed p) Crashes (Closed q) m was is sound = moves texts (Closed p) m low.Crashes (Closed q) (low_left (Closed p) q is) tt tt
+  step texts (Closed p) Gains (Closed q) m was is sound = moves texts (Closed p) m low.Gains (Closed q) (low_gained o p q is) tt tt
   step texts (Closed p) call after m was is sound = absurd is
-  step texts (Open s) Closes (Closed p) m was is sound = moves texts (Open s) m low.Closes (Closed p) (low_handed_back s p (has_one texts s m was) is) tt tt
-  step texts (Open s) Crashes (Closed p) m was is sound = moves texts (Open s) m low.Crashes (Closed p) (low_left (Open s) p (has_one texts s m was) is) tt tt
+  step texts (Open s) Closes (Closed p) m was is sound = moves texts (Open s) m low.Closes (Closed p) (low_handed_back s p is) tt tt
+  step texts (Open s) Crashes (Closed p) m was is sound = moves texts (Open s) m low.Crashes (Closed p) (low_left (Open s) p is) tt tt
   step texts (Open s) (Begins changes laid (Ok text)) (Open new) m was is sound = begins texts s m was new sound changes laid text is
   step texts (Open s) (Begins changes laid (Err error.Memory)) (Open new) m was is sound = begin_refused texts s m was new sound changes laid error.Memory (λ d. cc d) is
   step texts (Open s) (Begins changes laid (Err error.NoLeaf)) (Open new) m was is sound = begin_refused texts s m was new sound changes laid error.NoLeaf (λ d. cc d) is
@@ -108,6 +110,14 @@ module _ (o : Owner) where
   step texts (Open s) (Begins changes laid (Err error.NoKey)) (Open new) m was is sound = begin_refused texts s m was new sound changes laid error.NoKey (λ d. cc d) is
   step texts (Open s) (Begins changes laid (Err error.Foreign)) (Open new) m was is sound = begin_refused texts s m was new sound changes laid error.Foreign (λ d. cc d) is
   step texts (Open s) (Begins changes laid (Err error.Damaged)) (Open new) m was is sound = begin_refused texts s m was new sound changes laid error.Damaged (λ d. cc d) is
+  step texts (Open s) (Resigns n (Ok text)) (Open new) m was is sound = resigns texts s m was new sound n text is
+  step texts (Open s) (Resigns n (Err error.Memory)) (Open new) m was is sound = resign_refused texts s m was new sound n error.Memory (λ d. cc d) is
+  step texts (Open s) (Resigns n (Err error.NoLeaf)) (Open new) m was is sound = resign_refused texts s m was new sound n error.NoLeaf (λ d. cc d) is
+  step texts (Open s) (Resigns n (Err error.Device)) (Open new) m was is sound = resign_fails texts s m was new sound n is
+  step texts (Open s) (Resigns n (Err error.NoNumber)) (Open new) m was is sound = resign_refused texts s m was new sound n error.NoNumber (λ d. cc d) is
+  step texts (Open s) (Resigns n (Err error.NoKey)) (Open new) m was is sound = resign_refused texts s m was new sound n error.NoKey (λ d. cc d) is
+  step texts (Open s) (Resigns n (Err error.Foreign)) (Open new) m was is sound = resign_refused texts s m was new sound n error.Foreign (λ d. cc d) is
+  step texts (Open s) (Resigns n (Err error.Damaged)) (Open new) m was is sound = resign_refused texts s m was new sound n error.Damaged (λ d. cc d) is
   step texts (Open s) (Hears text answer) (Open new) m was is sound = quiet texts (Open s) m (Open new) (ap low.Open (hears s text answer new is))
   step texts (Open s) (Takes block answer) (Open new) m was is sound = quiet texts (Open s) m (Open new) (ap low.Open (takes s block answer new is))
   step texts (Open s) (Signs (Ok text)) (Open new) m was is sound = signs texts s m was new sound text is

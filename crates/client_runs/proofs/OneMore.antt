@@ -26,8 +26,8 @@ module _ {A : Type 0} (t : WorldStep A) (before after : Client) where
   -- what an answer keeps: nothing, where the step can't be taken; or a step with its event
   abbrev Kept : Answer A → Type 0
   Kept a =
-      ((after ≡ before) × CantBeTaken before t.act
-      × ((steps : List (WorldStep A)) (answers : List (Answer A)) (events : List Event) → CantBeTaken (client_of t.user events) t.act → Keep steps answers events → Keep (t ∷ steps) (a ∷ answers) events))
+      ((after ≡ before) × CantBeTaken o before t.act
+      × ((steps : List (WorldStep A)) (answers : List (Answer A)) (events : List Event) → CantBeTaken o (client_of t.user events) t.act → Keep steps answers events → Keep (t ∷ steps) (a ∷ answers) events))
       ⊎ (IsTaken o before t.act a after
       × ((steps : List (WorldStep A)) (answers : List (Answer A)) (e : Event) (events : List Event) → IsEventOf t a e → Keep steps answers events → Keep (t ∷ steps) (a ∷ answers) (e ∷ events)))
 
@@ -36,6 +36,7 @@ module _ {A : Type 0} (t : WorldStep A) (before after : Client) where
   kept (answer.Opened how text) h = inr (h, λ steps answers e events is k. (is, k))
   kept (answer.Refused error) h = inr (h, λ steps answers e events is k. (is, k))
   kept answer.Closed h = inr (h, λ steps answers e events is k. (is, k))
+  kept answer.Gained h = inr (h, λ steps answers e events is k. (is, k))
   kept (answer.Begun r) h = inr (h, λ steps answers e events is k. (is, k))
   kept (answer.Asks r) h = inr (h, λ steps answers e events is k. (is, k))
   kept (answer.Signed r) h = inr (h, λ steps answers e events is k. (is, k))
@@ -78,13 +79,13 @@ module _ {A : Type 0} (steps : List (WorldStep A)) (answers : List (Answer A)) (
   abbrev o_of : Owner
   o_of = owner script_keys t.user
 
-  not_taken : client_at new t.user ≡ client_at clients t.user → CantBeTaken (client_at clients t.user) t.act
-      → ((ss : List (WorldStep A)) (as' : List (Answer A)) (es : List Event) → CantBeTaken (client_of t.user es) t.act → Keep ss as' es → Keep (t ∷ ss) (a ∷ as') es)
+  not_taken : client_at new t.user ≡ client_at clients t.user → CantBeTaken o_of (client_at clients t.user) t.act
+      → ((ss : List (WorldStep A)) (as' : List (Answer A)) (es : List Event) → CantBeTaken o_of (client_of t.user es) t.act → Keep ss as' es → Keep (t ∷ ss) (a ∷ as') es)
       → StandsSoFar (steps ++ t ∷ []) (answers ++ a ∷ []) new
   not_taken same cant keeps = record {
     events = h.events;
     is_run = h.is_run;
-    kept = keep_more steps answers t a h.events (keeps (reverse steps) (reverse answers) h.events (subst (λ (c : Client). CantBeTaken c t.act) (sym (h.clients t.user)) cant) h.kept);
+    kept = keep_more steps answers t a h.events (keeps (reverse steps) (reverse answers) h.events (subst (λ (c : Client). CantBeTaken o_of c t.act) (sym (h.clients t.user)) cant) h.kept);
     clients = λ u. other_client t a clients new others u h.events (h.clients u) (λ w. ap (λ n. client_at new n) w ∙ same ∙ ap (λ n. client_at clients n) (sym w));
   }
 

@@ -12,7 +12,7 @@ use Rattle.client_releases.specs.Releasing.{IsKept, structure_record, under}
 use Rattle.leaf_ledger.specs.Ledger.{LeafNumber}
 use Rattle.client_verify.specs.State.{State, on, over, released, signed_over, signed_text, signing_key}
 use Rattle.client_runs.specs.Slots.{AreSame}
-use Rattle.client_steps.specs.Steps.{Asks, Begins, Caches, Call, Closes, Commits, Crashes, FromOpen, Gives, HasBegun, HasCached, HasCommitted, HasGiven, HasHeard, HasLooked, HasSigned, HasTaken, Hears, Looks, Open, Opens, Sees, Signs, Takes}
+use Rattle.client_steps.specs.Steps.{Asks, Begins, Caches, Call, Closes, Commits, Crashes, FromOpen, Gains, Gives, HasBegun, HasCached, HasCommitted, HasGiven, HasHeard, HasLooked, HasResigned, HasSigned, HasTaken, Hears, Looks, Open, Opens, Resigns, Sees, Signs, Takes}
 use Rattle.client_runs.proofs.Lowering.{if_ready, with_ready}
 use Rattle.client_runs.proofs.Quiet as quiet
 
@@ -40,6 +40,10 @@ module _ (s new : State) where
   pub begins : (changes : List (Change Digest)) (laid : List Bytes) (answer : Result Bytes ClientError) → HasBegun s changes laid answer new → AreSame s new
   begins changes laid (Ok text) b = ap (λ (n : State). n.secrets) b.declared.2
   begins changes laid (Err e) b = unless_device e (λ is. let left = b.fails (told_error e error.Device is) in ap (λ (n : State). n.secrets) left) b.err
+
+  pub resigns : (n : ℕ) (answer : Result Bytes ClientError) → HasResigned s n answer new → AreSame s new
+  resigns n (Ok text) b = ap (λ (n : State). n.secrets) b.resigned.2
+  resigns n (Err e) b = unless_device e (λ is. let left = b.fails (told_error e error.Device is) in ap (λ (n : State). n.secrets) left) b.err
 
   pub hears : (text : Bytes) (answer : Result Asks ClientError) → HasHeard s text answer new → AreSame s new
   hears text answer b = quietly (quiet.hears s text answer new b)
@@ -79,7 +83,9 @@ module _ (s new : State) where
   pub steps : (call : Call) → FromOpen s call (Open new) → AreSame s new
   steps (Opens answer) b = absurd b
   steps Closes b = absurd b
+  steps Gains b = absurd b
   steps (Begins changes laid answer) b = begins changes laid answer b
+  steps (Resigns n answer) b = resigns n answer b
   steps (Hears text answer) b = hears text answer b
   steps (Takes block answer) b = takes block answer b
   steps (Signs answer) b = signs answer b

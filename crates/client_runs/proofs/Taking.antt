@@ -1,15 +1,15 @@
 -- Steps that are taken: what a call ensures is what its step tells.
-use Rattle.std.proofs.lemmas.List.{length-map}
-use Rattle.std.proofs.Common.{arith, ◌≡◌, ℕ, List, [], ◌∷◌, length, map, Option, Ok, Err, Result, IfOk, option_map, refl, sym, ap, subst, ◌∙◌}
+use Rattle.std.proofs.Common.{◌≡◌, ℕ, List, map, Option, Ok, Err, Result, IfOk, OnOk, option_map, refl, sym, ap, subst, ◌∙◌}
 use Rattle.std.specs.Vec.{vec_items}
 use Rattle.std.specs.declared.vec.Vec.{Vec}
-use Rattle.layout.specs.Types.{Bytes, Digest, INumber, Key, Principal, User}
+use Rattle.layout.specs.Types.{Bytes, Digest, INumber, Key, Principal}
 use Rattle.lms_sign.specs.Secret.{Secret}
-use Rattle.leaf_ledger.specs.Device.{History, MayLeave, started}
+use Rattle.leaf_ledger.specs.Device.{started}
 use Rattle.update_cert.specs.Change.{Change}
 use Rattle.client_tree.specs.declared.questions.Question.TheVariants as question
 use Rattle.wire.specs.declared.kinds.Status.{Status}
 use Rattle.client_releases.specs.declared.error.ClientError.{ClientError}
+use Rattle.client_releases.specs.declared.parts.Parts.{Parts as Held}
 use Rattle.client_releases.specs.declared.phase.Phase.{Phase}
 use Rattle.client_verify.specs.declared.look.Look.{Look}
 use Rattle.client_verify.specs.declared.step.Step.{Step}
@@ -19,10 +19,12 @@ use Rattle.client_runs.specs.declared.world.Act.{Act}
 use Rattle.client_runs.specs.declared.world.Act.TheVariants as act
 use Rattle.client_runs.specs.declared.world.Answer.{Answer}
 use Rattle.client_runs.specs.declared.world.Answer.TheVariants as answer
-use Rattle.client_steps.specs.Steps.{Begins, Caches, Client, Closed, Closes, Commits, Gives, HasBegun, HasCached, HasCommitted, HasGiven, HasHeard, HasLooked, HasSigned, HasTaken, Hears, IsHandedBack, IsOpened, IsRefused, IsSound, Looks, Open, Opens, Owner, IsStep, Device, Parts, Signs, Takes, closed_over, journal_of, ledger_in, ledger_of, owner_of, secret_in}
+use Rattle.client_runs.specs.declared.slot.Slot.{Slot}
+use Rattle.client_runs.specs.declared.slot.Slot.TheVariants as slot
+use Rattle.client_steps.specs.Steps.{Begins, Caches, Client, Closed, Closes, Commits, Device, Gains, Gives, HasBegun, HasCached, HasCommitted, HasFirst, HasGained, HasGiven, HasHeard, HasLooked, HasResigned, HasSigned, HasTaken, Hears, IsHandedBack, IsOpened, IsRefused, IsSound, Looks, Open, Opens, Owner, Parts, Resigns, Signs, Takes, journal_of, ledgers_of, secrets_in}
 use Rattle.client_runs.specs.Carried.{ComesOf}
-use Rattle.client_runs.specs.NotTaken.{CantFromOpen, MayLeaveBoth}
-use Rattle.client_runs.specs.Slots.{AreSame, StaysOpen}
+use Rattle.client_runs.specs.NotTaken.{CantFromClosed, CantFromOpen, MayLeaveAll, NoneLeaves}
+use Rattle.client_runs.specs.Slots.{AreFirst, AreSame, IsLeftWith, IsOf, StaysOpen, client_in, files_in, parts_in}
 use Rattle.client_steps.specs.Anywhere.{asked, on_ok, seen}
 use Rattle.client_runs.specs.Told.{IsAcceptedBy, IsTold, resent, texts_in}
 use Rattle.client_runs.proofs.Same as unchanged
@@ -32,10 +34,30 @@ use Rattle.client_runs.proofs.NotTaken.{crashes, open_stays}
 pub comes_from : {A : Type 0} (o : Owner) (old before : Client) (t : Act A) (a : Answer A) (new : Client) → old ≡ before → ComesOf o old t a new → ComesOf o before t a new
 comes_from o old before t a new same comes = subst (λ (c : Client). ComesOf o c t a new) same comes
 
+-- and what comes of a step by its other name
+pub by_act : {A : Type 0} (o : Owner) (before : Client) (t u : Act A) (a : Answer A) (after : Client) → t ≡ u → ComesOf o before u a after → ComesOf o before t a after
+by_act {A} o before t u a after is comes = subst (λ (x : Act A). ComesOf o before x a after) (sym is) comes
+
 -- what follows of each value follows of a result's
 pub on_each : {T E : Type 0} (r : Result T E) (P Q : T → Type 0) → IfOk r P → ((x : T) → P x → Q x) → IfOk r Q
 on_each (Ok x) P Q given follows = follows x given
 on_each (Err e) P Q given follows = tt
+
+pub on_both : {T E : Type 0} (r : Result T E) (P Q R : T → Type 0) → IfOk r P → IfOk r Q → ((x : T) → P x → Q x → R x) → IfOk r R
+on_both (Ok x) P Q R first second follows = follows x first second
+on_both (Err e) P Q R first second follows = tt
+
+-- what holds anyway holds of a result
+pub when_ok : {T E : Type 0} (r : Result T E) (P : Type 0) → P → OnOk r P
+when_ok (Ok x) P p = p
+when_ok (Err e) P p = tt
+
+-- a result that is told is that
+pub of_ok : {T E : Type 0} (r : Result T E) (P : T → Type 0) (x : T) → r ≡ Ok x → P x → IfOk r P
+of_ok {T} {E} r P x is p = subst (λ (s : Result T E). IfOk s P) (sym is) p
+
+pub of_err : {T E : Type 0} (r : Result T E) (P : T → Type 0) (e : E) → r ≡ Err e → IfOk r P
+of_err {T} {E} r P e is = subst (λ (s : Result T E). IfOk s P) (sym is) tt
 
 -- ---- calls of an open client
 
@@ -53,6 +75,12 @@ module _ {A : Type 0} (o : Owner) (old new : State) (t : Act A) where
   begins changes laid r is b sound =
       same_step (act.Begin changes laid) (answer.Begun r) (Open new) is
       (record { call = Begins changes.items (texts_in laid) (on_ok vec_items r); is_call = refl; told = tt; step = b; sound = sound })
+
+  pub resigns : (n : ℕ) (r : Result (Vec ℕ A) ClientError) → t ≡ act.Resign n
+      → HasResigned old n (on_ok vec_items r) new → IsSound (Open new) → ComesOf o (Open old) t (answer.Begun r) (Open new)
+  resigns n r is b sound =
+      same_step (act.Resign n) (answer.Begun r) (Open new) is
+      (record { call = Resigns n (on_ok vec_items r); is_call = refl; told = tt; step = b; sound = sound })
 
   pub hears : (text : Vec ℕ A) (r : Result (Step A) ClientError) → t ≡ act.Reply text
       → HasHeard old text.items (on_ok asked r) new → IsSound (Open new) → ComesOf o (Open old) t (answer.Asks r) (Open new)
@@ -117,9 +145,9 @@ module _ {A : Type 0} (o : Owner) (old new : State) (t : Act A) where
       (record { call = Closes; is_call = refl; told = tt; step = back; sound = tt })
 
 -- what is neither a close nor a crash leaves it open
-pub stays_open : {A : Type 0} (t : Act A) → (t ≡ act.Close → ⊥) → ((ledger journal : Vec ℕ A) → t ≡ act.Crash ledger journal → ⊥) → StaysOpen t
+pub stays_open : {A : Type 0} (t : Act A) → (t ≡ act.Close → ⊥) → ((ledgers : Vec (Vec ℕ A) A) (journal : Vec ℕ A) → t ≡ act.Crash ledgers journal → ⊥) → StaysOpen t
 stays_open act.Close no_close no_crash = no_close refl
-stays_open (act.Crash ledger journal) no_close no_crash = no_crash ledger journal refl
+stays_open (act.Crash ledgers journal) no_close no_crash = no_crash ledgers journal refl
 stays_open other no_close no_crash = tt
 
 -- whatever comes of an open client, it is of the same key while it stays open
@@ -128,6 +156,7 @@ same_key o old new t answer.NotTaken h = let is : new ≡ old = cc h.0 in unchan
 same_key o old new t (answer.Opened how text) h = unchanged.steps old new h.call h.step
 same_key o old new t (answer.Refused error) h = unchanged.steps old new h.call h.step
 same_key o old new t answer.Closed h = unchanged.steps old new h.call h.step
+same_key o old new t answer.Gained h = unchanged.steps old new h.call h.step
 same_key o old new t (answer.Begun r) h = unchanged.steps old new h.call h.step
 same_key o old new t (answer.Asks r) h = unchanged.steps old new h.call h.step
 same_key o old new t (answer.Signed r) h = unchanged.steps old new h.call h.step
@@ -139,84 +168,70 @@ same_key o old new t (answer.Served status) h = unchanged.steps old new h.call h
 
 -- ---- crashes
 
--- what may be left may be left by another name
-pub may_of : (file same : History) (left alike : Bytes) → file ≡ same → left ≡ alike → MayLeave file.now left → MayLeave same.now alike
-may_of file same left alike at_file at_left may = subst (λ (x : Bytes). MayLeave same.now x) at_left (subst (λ (h : History). MayLeave h.now left) at_file may)
+-- the texts of a vector, lent
+pub lent_texts : {A : Type 0} (lent : List (Vec ℕ A)) (ledgers : Vec (Vec ℕ A) A) → lent ≡ ledgers.items → map vec_items lent ≡ texts_in ledgers
+lent_texts {A} lent ledgers is = ap (λ (l : List (Vec ℕ A)). map vec_items l) is
 
--- The step, the files of both devices and what is left on them are those of the test and of the crash by other names.
-module _ {A : Type 0} (o : Owner) (before : Client) (t : Act A) (ledger journal : Vec ℕ A) (file other : History) (left kept : Bytes) where
-  -- a crash leaves what it may
-  pub crashed : t ≡ act.Crash ledger journal → file ≡ ledger_of before → other ≡ journal_of before → left ≡ ledger.items → kept ≡ journal.items
-      → MayLeaveBoth file other left kept → (p : Parts) → p.ledger.history ≡ started left → p.journal.history ≡ started kept
-      → ComesOf o before t answer.Crashed (Closed p)
-  crashed is at_file at_other at_left at_kept may p l j =
-      let both : MayLeaveBoth (ledger_of before) (journal_of before) ledger.items journal.items =
-      (may_of file (ledger_of before) left ledger.items at_file at_left may.0, may_of other (journal_of before) kept journal.items at_other at_kept may.1) in
-      subst (λ (x : Act A). ComesOf o before x answer.Crashed (Closed p)) (sym is)
-      (crashes o before ledger journal p both (l ∙ ap started at_left) (j ∙ ap started at_kept))
+-- What a step has left on the devices is what it is told to leave, by other names.
+module _ {A : Type 0} (ledgers : Vec (Vec ℕ A) A) (journal : Vec ℕ A) (left : List (Vec ℕ A)) (kept : Bytes) (at_left : left ≡ ledgers.items) (at_kept : kept ≡ journal.items) where
+  pub by_name : (c : Client) → MayLeaveAll (ledgers_of c) (journal_of c) (map vec_items left) kept → MayLeaveAll (ledgers_of c) (journal_of c) (texts_in ledgers) journal.items
+  by_name c may =
+      subst (λ (k : Bytes). MayLeaveAll (ledgers_of c) (journal_of c) (texts_in ledgers) k) at_kept
+      (subst (λ (l : List Bytes). MayLeaveAll (ledgers_of c) (journal_of c) l kept) (lent_texts left ledgers at_left) may)
 
--- what it may not leave it doesn't
-pub not_left : {A : Type 0} (s : State) (t : Act A) (ledger journal : Vec ℕ A) (file other : History) (left kept : Bytes) → t ≡ act.Crash ledger journal → file ≡ ledger_of (Open s) → other ≡ journal_of (Open s)
-    → left ≡ ledger.items → kept ≡ journal.items → (MayLeaveBoth file other left kept → ⊥) → CantFromOpen s t
-not_left {A} s t ledger journal file other left kept is at_file at_other at_left at_kept none =
-    subst (λ (x : Act A). CantFromOpen s x) (sym is)
-    (λ may. none (may_of (ledger_of (Open s)) file ledger.items left (sym at_file) (sym at_left) may.0, may_of (journal_of (Open s)) other journal.items kept (sym at_other) (sym at_kept) may.1))
+  -- what it may not leave it doesn't
+  none_leaves : (c : Client) → (MayLeaveAll (ledgers_of c) (journal_of c) (map vec_items left) kept → ⊥) → NoneLeaves c (texts_in ledgers) journal.items
+  none_leaves c none =
+      λ may. none (subst (λ (k : Bytes). MayLeaveAll (ledgers_of c) (journal_of c) (map vec_items left) k) (sym at_kept)
+      (subst (λ (l : List Bytes). MayLeaveAll (ledgers_of c) (journal_of c) l journal.items) (sym (lent_texts left ledgers at_left)) may))
 
--- ---- a client with one key in a vector
+  module _ (t : Act A) (is : t ≡ act.Crash ledgers journal) where
+    pub not_left : (s : State) → (MayLeaveAll (ledgers_of (Open s)) (journal_of (Open s)) (map vec_items left) kept → ⊥) → CantFromOpen s t
+    not_left s none = subst (λ (x : Act A). CantFromOpen s x) (sym is) (none_leaves (Open s) none)
 
-abbrev Own : Type 0
-Own = List (Secret × Device)
+    pub not_left_closed : (o : Owner) (p : Parts) → (MayLeaveAll (ledgers_of (Closed p)) (journal_of (Closed p)) (map vec_items left) kept → ⊥) → CantFromClosed o p t
+    not_left_closed o p none = subst (λ (x : Act A). CantFromClosed o p x) (sym is) (none_leaves (Closed p) none)
 
-abbrev ledger_of_own : Own → Device
-ledger_of_own keys = ledger_in (λ (d : Device). d.history) (λ (d : Device). d.faults) keys
+    -- a crash leaves what it may
+    pub crashed : (o : Owner) (before : Client) → MayLeaveAll (ledgers_of before) (journal_of before) (texts_in ledgers) journal.items
+        → (secrets : List Secret) (after : Slot A) (a : Answer A) → IsLeftWith (map vec_items left) kept secrets after → a ≡ answer.Crashed → ComesOf o before t a (client_in after)
+    crashed o before may secrets slot.Unmade a h at = absurd h
+    crashed o before may secrets (slot.Open s) a h at = absurd h
+    crashed o before may secrets (slot.Closed p) a h at =
+        subst (λ (b : Answer A). ComesOf o before t b (Closed (parts_in p))) (sym at)
+        (subst (λ (x : Act A). ComesOf o before x answer.Crashed (Closed (parts_in p))) (sym is)
+        (crashes o before ledgers journal (parts_in p) may (h.0 ∙ ap (λ (l : List Bytes). map started l) (lent_texts left ledgers at_left)) (h.1 ∙ ap started at_kept)))
 
-abbrev told : Device → Device
-told d = record { history = d.history; faults = d.faults }
+-- so it is with what a crash left, by another name
+pub left_with : {A : Type 0} (ledgers : List Bytes) (journal : Bytes) (secrets : List Secret) (p made : Held Device Device A) → made ≡ p → files_in p.keys.items ≡ map started ledgers → p.journal.history ≡ started journal
+    → secrets_in p.keys.items ≡ secrets → IsLeftWith ledgers journal secrets (slot.Closed made)
+left_with {A} ledgers journal secrets p made same l j s = (
+  ap (λ (q : Held Device Device A). files_in q.keys.items) same ∙ l,
+  ap (λ (q : Held Device Device A). q.journal.history) same ∙ j,
+  ap (λ (q : Held Device Device A). secrets_in q.keys.items) same ∙ s,
+)
 
-module _ (user : User) (pinned : Key) (keys : Own) (under : Device) (key : Secret) (ledger journal : Device) (one : keys ≡ (key, ledger) ∷ []) (same : under ≡ journal) where
-  pub opened_over : (s : State) → IsStep (owner_of user (secret_in keys) pinned) (closed_over (ledger_of_own keys) (told under)) (Opens (Ok tt)) (Open s)
-      → IsOpened (owner_of user key pinned) (record { ledger = ledger; journal = journal }) s
-  opened_over s is =
-      subst (λ (j : Device). IsStep (owner_of user key pinned) (closed_over ledger j) (Opens (Ok tt)) (Open s)) same
-      (subst (λ (l : Own). IsStep (owner_of user (secret_in l) pinned) (closed_over (ledger_of_own l) (told under)) (Opens (Ok tt)) (Open s)) one is)
-
-  pub refused_over : (back : Own) (left : Device) (k : Secret) (l j : Device) → back ≡ (k, l) ∷ [] → j ≡ left → (e : ClientError)
-      → IsStep (owner_of user (secret_in keys) pinned) (closed_over (ledger_of_own keys) (told under)) (Opens (Err e)) (closed_over (ledger_of_own back) (told left))
-      → IsRefused (owner_of user key pinned) (record { ledger = ledger; journal = journal }) e (record { ledger = l; journal = j })
-  refused_over back left k l j other alike e is =
-      subst (λ (x : Device). IsStep (owner_of user key pinned) (closed_over ledger x) (Opens (Err e)) (closed_over l j)) same
-      (subst (λ (x : Own). IsStep (owner_of user (secret_in x) pinned) (closed_over (ledger_of_own x) (told under)) (Opens (Err e)) (closed_over l j)) one
-      (subst (λ (x : Device). IsStep (owner_of user (secret_in keys) pinned) (closed_over (ledger_of_own keys) (told under)) (Opens (Err e)) (closed_over l x)) (sym alike)
-      (subst (λ (x : Own). IsStep (owner_of user (secret_in keys) pinned) (closed_over (ledger_of_own keys) (told under)) (Opens (Err e)) (closed_over (ledger_of_own x) (told left))) other is)))
-
--- the same key comes back
-module _ (back keys : Own) (key : Secret) (ledger : Device) where
-  pub one_back : map (λ k. k.0) back ≡ map (λ k. k.0) keys → keys ≡ (key, ledger) ∷ [] → length back ≡ 1
-  one_back same one =
-      let size = ap (λ (l : List Secret). length l) same in
-      omega (arith, size, length-map back (λ (k : Secret × Device). k.0), length-map keys (λ (k : Secret × Device). k.0), ap (λ (l : Own). length l) one)
-
-  pub key_back : (k : Secret) (l : Device) → map (λ k. k.0) back ≡ map (λ k. k.0) keys → keys ≡ (key, ledger) ∷ [] → back ≡ (k, l) ∷ [] → k ≡ key
-  key_back k l same one other =
-      let heads : k ∷ [] ≡ key ∷ [] = sym (ap (λ (l : Own). map (λ x. x.0) l) other) ∙ same ∙ ap (λ (l : Own). map (λ x. x.0) l) one in cc heads
-
-pub key_handed : (back : Own) (secrets : List Secret) (k : Secret) (l : Device) (key : Secret) → map (λ k. k.0) back ≡ secrets → secrets ≡ key ∷ [] → back ≡ (k, l) ∷ [] → k ≡ key
-key_handed back secrets k l key same one other =
-    let heads : k ∷ [] ≡ key ∷ [] = sym (ap (λ (l : Own). map (λ x. x.0) l) other) ∙ same ∙ one in cc heads
-
-pub one_handed : (back : Own) (secrets : List Secret) → map (λ k. k.0) back ≡ secrets → length secrets ≡ 1 → length back ≡ 1
-one_handed back secrets same one = omega (arith, ap (λ (l : List Secret). length l) same, one, length-map back (λ (k : Secret × Device). k.0))
-
-pub handed_over : (s : State) (back : Own) (left : Device) (k : Secret) (l j : Device) → back ≡ (k, l) ∷ [] → j ≡ left → IsHandedBack s (record { ledger = ledger_of_own back; journal = told left }) → IsHandedBack s (record { ledger = l; journal = j })
-handed_over s back left k l j other alike is =
-    subst (λ (x : Device). IsHandedBack s (record { ledger = l; journal = x })) (sym alike)
-    (subst (λ (x : Own). IsHandedBack s (record { ledger = ledger_of_own x; journal = told left })) other is)
+-- a client that crashed is of the same keys
+pub left_own : {A : Type 0} (o : Owner) (ledgers : List Bytes) (journal : Bytes) (secrets : List Secret) (after : Slot A) → IsLeftWith ledgers journal secrets after → AreFirst secrets o.secrets → IsOf o after
+left_own o ledgers journal secrets slot.Unmade h own = absurd h
+left_own o ledgers journal secrets (slot.Open s) h own = absurd h
+left_own o ledgers journal secrets (slot.Closed p) h own = subst (λ (l : List Secret). AreFirst l o.secrets) (sym h.2) own
 
 -- ---- a closed client
 
--- the owner of these is that one by another name
-pub same_owner : (o : Owner) (pinned : Key) (secret : Secret) → pinned ≡ o.pinned → secret ≡ o.secret → owner_of o.user secret pinned ≡ o
-same_owner o pinned secret at_pinned at_secret = rw (at_pinned, at_secret) refl
+-- it does nothing else than open, gain a key, or crash
+pub stays_closed : {A : Type 0} (o : Owner) (p : Parts) (t : Act A) → (t ≡ act.Open → ⊥) → (t ≡ act.Gain → ⊥) → ((ledgers : Vec (Vec ℕ A) A) (journal : Vec ℕ A) → t ≡ act.Crash ledgers journal → ⊥) → CantFromClosed o p t
+stays_closed o p act.Open no_open no_gain no_crash = no_open refl
+stays_closed o p act.Gain no_open no_gain no_crash = absurd (no_gain refl)
+stays_closed o p (act.Crash ledgers journal) no_open no_gain no_crash = absurd (no_crash ledgers journal refl)
+stays_closed o p other no_open no_gain no_crash = tt
+
+-- it has its owner's first keys, also by another name
+pub has_first : (o : Owner) (pinned : Key) (secrets : List Secret) → pinned ≡ o.pinned → AreFirst secrets o.secrets → HasFirst o.user pinned secrets o
+has_first o pinned secrets is own = record { user_is = refl; pinned_is = sym is; first = own.1 }
+
+pub same_first : (all some other : List Secret) → other ≡ some → AreFirst some all → AreFirst other all
+same_first all some other is own = subst (λ (l : List Secret). AreFirst l all) (sym is) own
 
 module _ (o : Owner) (p : Parts) where
   pub opens : {A : Type 0} (s : State) (how : Phase) (text : Vec ℕ A) → IsOpened o p s → IsSound (Open s) → how ≡ s.phase → text.items ≡ resent s.phase s.text
@@ -225,3 +240,6 @@ module _ (o : Owner) (p : Parts) where
 
   pub refuses : {A : Type 0} (q : Parts) (e : ClientError) → IsRefused o p e q → ComesOf {A = A} o (Closed p) act.Open (answer.Refused e) (Closed q)
   refuses q e is = record { call = Opens (Err e); is_call = refl; told = tt; step = is; sound = tt }
+
+  pub gains : {A : Type 0} (q : Parts) → HasGained o p q → ComesOf {A = A} o (Closed p) act.Gain answer.Gained (Closed q)
+  gains q is = record { call = Gains; is_call = refl; told = tt; step = is; sound = tt }

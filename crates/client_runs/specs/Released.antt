@@ -21,7 +21,7 @@ use Rattle.reply_check.specs.FirstBroken.{reply_in}
 use Rattle.agreement.specs.Runs.{View}
 use Rattle.release_runs.specs.Released.{found_text}
 use Rattle.client_verify.specs.State.{Ready, State, next_structure}
-use Rattle.client_steps.specs.Steps.{Asks, Call, Opens, Begins, Hears, Takes, Signs, Gives, Client, Closed, Open}
+use Rattle.client_steps.specs.Steps.{Asks, Call, Opens, Begins, Resigns, Hears, Takes, Signs, Gives, Client, Closed, Open}
 use Rattle.client_runs.specs.Runs.{Event, Keys, client_of, pinned}
 
 -- ---- released texts
@@ -31,10 +31,11 @@ abbrev pub found_by : Client → List Bytes
 found_by (Closed p) = []
 found_by (Open s) = found_text s.text
 
--- what a call releases: `begin` and `sign` the text that they give, `open` the one that it finds
+-- what a call releases: `begin`, `resign` and `sign` the text that they give, `open` the one that it finds
 abbrev pub released_by : Call → Client → List Bytes
 released_by (Opens (Ok x)) after = found_by after
 released_by (Begins changes laid (Ok text)) after = text ∷ []
+released_by (Resigns n (Ok text)) after = text ∷ []
 released_by (Signs (Ok text)) after = text ∷ []
 released_by call after = []
 

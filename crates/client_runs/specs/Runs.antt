@@ -1,28 +1,29 @@
 -- Runs of the clients of all users: steps of any of them in any order, the latest first, with failed calls of devices,
 -- crashes and restarts. Of servers and stores nothing is said: replies and blocks are any bytes.
-use Rattle.std.specs.Prelude.{◌≡◌, List, [], ◌∷◌, ◌==◌, if◌then◌else◌}
+use Rattle.std.specs.Prelude.{List, [], ◌∷◌, ◌==◌, if◌then◌else◌, map, slice_index_or}
+use Rattle.std.specs.List.{Contains}
 use Rattle.layout.specs.Types.{Key, User}
 use Rattle.lms_sign.specs.Keys.{public_key_of}
 use Rattle.lms_sign.specs.Secret.{Secret}
 use Rattle.client_steps.specs.Steps.{Call, Client, IsSound, IsStep, Owner, first}
 
--- what each user's key is made of
+-- what all keys of each user are made of that the user may have, the first key first
 abbrev pub Keys : Type 0
-Keys = User → Secret
+Keys = User → List Secret
 
-abbrev pub public_key : Keys → User → Key
-public_key keys u = public_key_of (keys u)
+abbrev pub public_keys : Keys → User → List Key
+public_keys keys u = map public_key_of (keys u)
 
--- user 0's public key, which every client knows
+-- the public key of user 0's first key, which every client knows
 abbrev pub pinned : Keys → Key
-pinned keys = public_key keys 0
+pinned keys = slice_index_or (public_keys keys 0) 0 []
 
--- this is the user's own public key
+-- this is one of the user's own public keys
 abbrev pub IsOwnKey : Keys → User → Key → Type 0
-IsOwnKey keys u key = key ≡ public_key keys u
+IsOwnKey keys u key = Contains (public_keys keys u) key
 
 abbrev pub owner : Keys → User → Owner
-owner keys u = record { user = u; secret = keys u; pinned = pinned keys }
+owner keys u = record { user = u; secrets = keys u; pinned = pinned keys }
 
 -- a step of a user's client, and the client after it
 pub record Event : Type 0 where

@@ -9,7 +9,7 @@ use Rattle.client_tree.specs.declared.questions.Question.TheVariants as question
 use Rattle.client_releases.specs.declared.phase.Phase.{Phase}
 use Rattle.client_releases.specs.declared.phase.Phase.TheVariants as phase
 use Rattle.client_verify.specs.State.{AcceptedView}
-use Rattle.client_steps.specs.Steps.{Begins, Caches, Call, Client, Closed, Closes, Commits, Crashes, Gives, Hears, Looks, Open, Opens, Signs, Takes}
+use Rattle.client_steps.specs.Steps.{Begins, Caches, Call, Client, Closed, Closes, Commits, Crashes, Gains, Gives, Hears, Looks, Open, Opens, Resigns, Signs, Takes, files_of}
 use Rattle.client_steps.specs.Anywhere.{asked, on_ok, seen}
 use Rattle.client_runs.specs.declared.world.Accepted.{Accepted}
 use Rattle.client_runs.specs.declared.world.Act.{Act}
@@ -28,7 +28,9 @@ abbrev pub call_of : {A : Type 0} → Act A → Answer A → Option Call
 call_of act.Open (answer.Opened how text) = Some (Opens (Ok tt))
 call_of act.Open (answer.Refused e) = Some (Opens (Err e))
 call_of act.Close answer.Closed = Some Closes
+call_of act.Gain answer.Gained = Some Gains
 call_of (act.Begin changes laid) (answer.Begun r) = Some (Begins changes.items (texts_in laid) (on_ok vec_items r))
+call_of (act.Resign n) (answer.Begun r) = Some (Resigns n (on_ok vec_items r))
 call_of (act.Reply text) (answer.Asks r) = Some (Hears text.items (on_ok asked r))
 call_of (act.Block block) (answer.Asks r) = Some (Takes (option_map vec_items block) (on_ok asked r))
 call_of act.Sign (answer.Signed r) = Some (Signs (on_ok (λ x. x.text.items) r))
@@ -38,7 +40,7 @@ call_of (act.Kind p i) (answer.Sees r) = Some (Looks (question.Kind p i) (on_ok 
 call_of (act.Free p first last) (answer.Sees r) = Some (Looks (question.Free p first last) (on_ok seen r))
 call_of (act.Give block) (answer.Sees r) = Some (Gives (option_map vec_items block) (on_ok seen r))
 call_of (act.Cache capacity) answer.Cached = Some (Caches capacity)
-call_of (act.Crash ledger journal) answer.Crashed = Some Crashes
+call_of (act.Crash ledgers journal) answer.Crashed = Some Crashes
 call_of other answer = None
 
 -- ---- what else is told
@@ -59,6 +61,6 @@ IsAcceptedBy x view =
 abbrev pub IsTold : {A : Type 0} → Act A → Answer A → Client → Type 0
 IsTold act (answer.Opened how text) (Open s) = (how ≡ s.phase) × (text.items ≡ resent s.phase s.text)
 IsTold act (answer.Signed (Ok x)) (Open s) = IsAcceptedBy x s.view
-IsTold (act.Crash ledger journal) answer.Crashed (Closed p) =
-    (p.ledger.history ≡ started ledger.items) × (p.journal.history ≡ started journal.items)
+IsTold (act.Crash ledgers journal) answer.Crashed (Closed p) =
+    (files_of p.ledgers ≡ map started (texts_in ledgers)) × (p.journal.history ≡ started journal.items)
 IsTold act answer client = Unit {0}

@@ -8,7 +8,7 @@ ghost use Rattle.client_runs.specs.Slots.{StaysOpen, Tells};
 use crate::armed::MemoryClient;
 use crate::signing::sign_and_tell;
 use crate::world::{Act, Answer};
-use client_steps::{begin, cache, commit, free, give, hear, kind, look, take};
+use client_steps::{begin, cache, commit, free, give, hear, kind, look, resign, take};
 use layout::{INumber, Memory, Principal};
 use std::alloc::Allocator;
 use update_cert::Change;
@@ -36,6 +36,16 @@ fn begins<A: Allocator + Copy>(
     match begin(alloc, client, changes, laid)? {
         Some(answer) => Ok(Answer::Begun(answer)),
         None => Ok(Answer::NotTaken),
+    }
+}
+
+/// It signs the certificate that is declared once more.
+fn resigns<A: Allocator + Copy>(client: &mut MemoryClient<A>, key: u8) -> Answer<A>
+    ensures { Tells client.old (Act.Resign key) result client.new }
+{
+    match resign(client, key as usize) {
+        Some(answer) => Answer::Begun(answer),
+        None => Answer::NotTaken,
     }
 }
 
@@ -147,7 +157,7 @@ fn caches<A: Allocator + Copy>(client: &mut MemoryClient<A>, capacity: u16) -> A
     }
 }
 
-/// A call of an open client, or its opening, which can't be.
+/// A call of an open client, or what only a closed one can do.
 pub(crate) fn call<A: Allocator + Copy>(
     alloc: A,
     client: &mut MemoryClient<A>,
@@ -158,6 +168,7 @@ pub(crate) fn call<A: Allocator + Copy>(
 {
     match act {
         Act::Begin(changes, laid) => begins(alloc, client, changes, laid),
+        Act::Resign(key) => Ok(resigns(client, *key)),
         Act::Reply(text) => Ok(hears(client, text)),
         Act::Block(block) => Ok(takes(client, block)),
         Act::Sign => signs(alloc, client),
@@ -167,7 +178,7 @@ pub(crate) fn call<A: Allocator + Copy>(
         Act::Free(principal, first, last) => Ok(frees(client, *principal, *first, *last)),
         Act::Give(block) => Ok(gives(client, block)),
         Act::Cache(capacity) => Ok(caches(client, *capacity)),
-        Act::Open => Ok(Answer::NotTaken),
+        Act::Open | Act::Gain => Ok(Answer::NotTaken),
         Act::Close => unreachable!(),
         Act::Crash(_, _) => unreachable!(),
     }

@@ -1,20 +1,20 @@
-//! A device in memory whose calls can be made to fail while a client holds it.
+//! Devices in memory whose calls can be made to fail while a client holds them.
 
-ghost use Rattle.std.specs.Prelude.{◌≡◌, [], false, true, IfErr, IfOk};
+ghost use Rattle.std.specs.Prelude.{◌≡◌, [], false, true, IfOk, OnOk};
 ghost use Rattle.leaf_ledger.specs.Device.{MayLeave, started};
 
 use client_verify::Client;
-use layout::Memory;
-use leaf_ledger::{CrashError, Device, DeviceError, MemoryDevice};
+use layout::{Memory, put_in};
+use leaf_ledger::{Device, DeviceError, MemoryDevice};
 use std::alloc::Allocator;
 use std::cell::Cell;
 use std::marker::Model;
 use std::rc::Rc;
 
-/// After how many calls a device is to fail, until it takes the order.
+/// How many calls go well before the one that fails, if one is to fail: of all devices that share the order.
 pub(crate) type Order<A> = Rc<Cell<Option<u64>>, A>;
 
-/// A device in memory, which looks for an order before each call.
+/// A device in memory, which counts each call for its order.
 #[derive(Drop)]
 pub(crate) struct ArmedDevice<A: Allocator + Copy> {
     device: MemoryDevice<A>,
@@ -41,12 +41,17 @@ impl<A: Allocator + Copy> ArmedDevice<A> {
         Ok(ArmedDevice { device, order })
     }
 
-    /// Takes the order, if there is one.
+    /// Counts a call, which fails where it is due.
     fn obey(&mut self)
         ensures { self.new ≡ self.old }
     {
-        if let Some(calls) = self.order.take() {
-            self.device.fail_after(calls);
+        match self.order.get() {
+            None => {}
+            Some(0) => {
+                self.order.set(None);
+                self.device.fail_after(0);
+            }
+            Some(calls) => self.order.set(Some(calls - 1)),
         }
     }
 
@@ -58,20 +63,13 @@ impl<A: Allocator + Copy> ArmedDevice<A> {
         self.device.may_leave(left)
     }
 
-    /// The device after a crash that left these bytes.
-    pub(crate) fn crash(
-        self,
-        left: Vec<u8, A>,
-    ) -> Result<ArmedDevice<A>, (CrashError, ArmedDevice<A>)>
-        ensures may { IfOk result (λ _. MayLeave self.history.now left.items) }
-        ensures left { IfOk result (λ device. device ≡ record { history = started left.items; faults = self.faults }) }
-        ensures same { IfErr result (λ e. e.1 ≡ self) }
+    /// The device begins anew with these bytes, as after a crash that left them.
+    pub(crate) fn start_over(&mut self, alloc: A, left: &[u8]) -> Result<(), Memory>
+        ensures { OnOk result (self.new.history ≡ started left.now) }
     {
-        let ArmedDevice { device, order } = self;
-        match device.crash(left) {
-            Ok(device) => Ok(ArmedDevice { device, order }),
-            Err((error, device)) => Err((error, ArmedDevice { device, order })),
-        }
+        let text = Vec::from_slice(alloc, left)?;
+        put_in(&mut self.device, MemoryDevice::new(alloc, text)?);
+        Ok(())
     }
 }
 

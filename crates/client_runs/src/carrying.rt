@@ -2,7 +2,7 @@
 
 ghost use Rattle.std.specs.Prelude.{◌≡◌, ◌≢◌, ℕ, IfOk, OnOk, length, slice_index_or};
 ghost use Rattle.std.specs.Option.{option_copied};
-ghost use Rattle.client_runs.specs.Runs.{owner, public_key};
+ghost use Rattle.client_runs.specs.Runs.{owner, pinned as pinned_key};
 ghost use Rattle.client_runs.specs.Carried.{AreCarriedOut, ComesOf, script_keys};
 ghost use Rattle.client_runs.specs.Clients.{certificate_of, client_at, structure_of};
 ghost use Rattle.client_steps.specs.Steps.{first};
@@ -18,7 +18,7 @@ use std::marker::Model;
 use std::mem;
 use std::rc::Rc;
 
-/// The clients of all users, each with its key of the bytes of the user's number, on two devices in memory.
+/// The clients of all users, each with its keys of bytes of the user's number, on devices in memory.
 #[derive(Drop)]
 pub struct Clients<A: Allocator + Copy> {
     alloc: A,
@@ -56,9 +56,9 @@ impl<A: Allocator + Copy> Clients<A> {
     pub fn new(alloc: A) -> Result<Clients<A>, Memory>
         ensures { IfOk result (λ clients. (u : ℕ) → client_at clients u ≡ first) }
     {
-        let pinned = key_of(alloc, User::superuser())?.public();
+        let pinned = key_of(alloc, User::superuser(), 0)?.public();
         let orders = Orders {
-            ledger: Rc::new(alloc, Cell::new(None))?,
+            ledgers: Rc::new(alloc, Cell::new(None))?,
             journal: Rc::new(alloc, Cell::new(None))?,
         };
         Ok(Clients {
@@ -71,7 +71,7 @@ impl<A: Allocator + Copy> Clients<A> {
 
     /// User 0's public key, which each of them knows.
     pub fn pinned(&self) -> PublicKey
-        ensures { result ≡ public_key script_keys 0 }
+        ensures { result ≡ pinned_key script_keys }
     {
         self.pinned
     }
@@ -90,7 +90,7 @@ impl<A: Allocator + Copy> Clients<A> {
         structure(&self.slots[user.get() as usize])
     }
 
-    /// Has a user's client do something. Of the calls of its ledger's device in this step one fails after so many, if
+    /// Has a user's client do something. Of the calls of its ledgers' devices in this step one fails after so many, if
     /// it is to; and of those of its journal's. After want of memory that client is lost.
     pub fn carry_out(
         &mut self,
@@ -104,13 +104,8 @@ impl<A: Allocator + Copy> Clients<A> {
         // The others are as before.
         ensures others { OnOk result ((u : ℕ) → u ≢ user → client_at self.new u ≡ client_at self.old u) }
     {
-        // A device that gets no order to fail is to fail never.
-        self.orders
-            .ledger
-            .set(Some(ledger_fails.unwrap_or(u64::MAX)));
-        self.orders
-            .journal
-            .set(Some(journal_fails.unwrap_or(u64::MAX)));
+        self.orders.ledgers.set(ledger_fails);
+        self.orders.journal.set(journal_fails);
         let place = user.get() as usize;
         let slot = mem::replace(&mut self.slots[place], Slot::Unmade);
         let (slot, answer) = step(self.alloc, user, self.pinned, &self.orders, slot, act)?;
@@ -121,8 +116,9 @@ impl<A: Allocator + Copy> Clients<A> {
 
 /// Carries out steps of users' clients, one after another.
 ///
-/// Each user's client has its key of the bytes of the user's number, stands on two devices in memory that hold nothing
-/// at first, and knows user 0's public key. A step that its client can't take, as it is then, is not taken.
+/// Each user's client has its keys of bytes of the user's number, one at first; it stands on devices in memory that
+/// hold nothing at first, and knows user 0's public key. A step that its client can't take, as it is then, is not
+/// taken.
 pub fn run<A: Allocator + Copy>(alloc: A, steps: &[WorldStep<A>]) -> Result<World<A>, Memory>
     ensures { IfOk result (λ world. AreCarriedOut steps.now world.answers.items) }
 {

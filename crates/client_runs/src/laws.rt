@@ -4,8 +4,8 @@ ghost use Rattle.client_runs.specs.OfUsers.{RunsAreSteps, StepsAreRuns};
 ghost use Rattle.client_runs.specs.UsedOnce.{CertificatesOnce, EachClient, LeavesOnce, StructuresOnce};
 
 /// Over every run of a user's client, with any crashes and failures of its devices, no two different texts that it
-/// releases carry one leaf number, no two different certificates one number, and no two different structures one
-/// number.
+/// releases carry one leaf of one key, no two different certificates one number, but for their signatures, and no two
+/// different structures one number.
 pub fn each_is_used_once()
     ensures leaves { EachClient LeavesOnce }
     ensures certificates { EachClient CertificatesOnce }

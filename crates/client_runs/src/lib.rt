@@ -5,6 +5,7 @@
 mod answering;
 mod armed;
 mod carrying;
+mod crashing;
 mod laws;
 mod signing;
 mod slot;

@@ -1,40 +1,32 @@
 //! A user's client in memory, open or closed, and a step of it.
 
-ghost use Rattle.std.specs.Prelude.{◌≡◌, [], ◌∷◌, false, length, true, IfOk};
+ghost use Rattle.std.specs.Prelude.{◌≡◌, ◌<◌, ◌++◌, [], ◌∷◌, length, map, IfOk};
 ghost use Rattle.std.specs.Option.{option_copied};
-ghost use Rattle.leaf_ledger.specs.Device.{started};
-ghost use Rattle.client_steps.specs.Steps.{Open, Owner, first};
-ghost use Rattle.client_runs.specs.Runs.{owner, public_key};
-ghost use Rattle.client_runs.specs.Carried.{ComesOf, script_keys};
+ghost use Rattle.std.specs.Vec.{vec_items};
+ghost use Rattle.client_steps.specs.Steps.{HasGained, Open, Owner, empty, first, secrets_in};
+ghost use Rattle.client_runs.specs.Runs.{owner, pinned as pinned_key};
+ghost use Rattle.client_runs.specs.Carried.{ComesOf, script_key, script_keys};
 ghost use Rattle.client_runs.specs.Clients.{certificate_in, certificate_of, structure_in, structure_of};
-ghost use Rattle.client_runs.specs.Slots.{IsOf, client_in};
+ghost use Rattle.client_runs.specs.Slots.{AreFirst, IsLeftWith, IsOf, client_in, parts_in};
 ghost use Rattle.client_runs.specs.Told.{resent as resent_in};
-ghost use Rattle.client_runs.specs.NotTaken.{MayLeaveBoth};
 
 use crate::answering::call;
 use crate::armed::{ArmedDevice, MemoryClient, Order};
+use crate::crashing::{MemoryKey, MemoryParts, crash, may_leave, open_may_leave};
 use crate::world::{Act, Answer};
 use client_steps::{close, type_invariant};
 use client_verify::{Parts, Phase};
-use layout::{Memory, User, beside, let_go};
+use layout::{Memory, User, beside};
 use lms_sign::{PrivateKey, PublicKey};
 use std::alloc::Allocator;
 
-/// What a client is opened over, in memory: its one key, with the device of its ledger, and the device of its journal.
-#[derive(Drop)]
-pub(crate) struct MemoryParts<A: Allocator + Copy> {
-    key: PrivateKey<A>,
-    ledger: ArmedDevice<A>,
-    journal: ArmedDevice<A>,
-}
-
-/// The same as a client takes it and hands it back.
-type ClientParts<A> = Parts<ArmedDevice<A>, ArmedDevice<A>, A>;
+/// How many keys a user other than 0 may have.
+const MOST_KEYS: usize = 4;
 
 /// A user's client.
 #[derive(Drop)]
 pub(crate) enum Slot<A: Allocator + Copy> {
-    /// It was never named: nothing stands on its devices.
+    /// It was never named: it has one key, and nothing stands on its devices.
     Unmade,
     /// It is closed.
     Closed(MemoryParts<A>),
@@ -45,15 +37,49 @@ pub(crate) enum Slot<A: Allocator + Copy> {
 /// The orders for the devices of the client that takes a step.
 #[derive(Drop)]
 pub(crate) struct Orders<A: Allocator + Copy> {
-    pub(crate) ledger: Order<A>,
+    pub(crate) ledgers: Order<A>,
     pub(crate) journal: Order<A>,
 }
 
-/// The key of a user's client, which is drawn from bytes of the user's number.
-pub(crate) fn key_of<A: Allocator + Copy>(alloc: A, user: User) -> Result<PrivateKey<A>, Memory>
-    ensures { IfOk result (λ key. key ≡ script_keys user) }
+/// A user's key of this number: it is drawn from bytes of the user's number, and of 64 more for each key before it.
+pub(crate) fn key_of<A: Allocator + Copy>(
+    alloc: A,
+    user: User,
+    number: u8,
+) -> Result<PrivateKey<A>, Memory>
+    requires { number < 4 }
+    ensures { IfOk result (λ key. key ≡ script_key user number) }
 {
-    PrivateKey::from_seed(alloc, [user.get(); 32], [user.get(); 16])
+    let id = user.get() + 64 * number;
+    PrivateKey::from_seed(alloc, [user.get(); 32], [id; 16])
+}
+
+/// How many keys a user may have.
+fn most_keys(user: User) -> usize
+    ensures { result ≡ length (script_keys user) }
+{
+    if user == User::superuser() {
+        1
+    } else {
+        MOST_KEYS
+    }
+}
+
+/// A user's key of this number, with the device of its ledger, on which nothing stands.
+fn new_key<A: Allocator + Copy>(
+    alloc: A,
+    user: User,
+    number: u8,
+    orders: &Orders<A>,
+) -> Result<MemoryKey<A>, Memory>
+    requires { number < 4 }
+    ensures key { IfOk result (λ k. k.0 ≡ script_key user number) }
+    ensures ledger { IfOk result (λ k. k.1 ≡ empty) }
+{
+    let ledger = ArmedDevice::empty(alloc, orders.ledgers.clone()?)?;
+    let key = key_of(alloc, user, number);
+    let (ledger, key) = beside(ledger, key)?;
+    Ok((key, ledger))
 }
 
 /// What a user's client is opened over before its first step.
@@ -65,43 +91,43 @@ fn first_parts<A: Allocator + Copy>(
     ensures client { IfOk result (λ parts. client_in (Slot.Closed parts) ≡ first) }
     ensures own { IfOk result (λ parts. IsOf (owner script_keys user) (Slot.Closed parts)) }
 {
-    let key = key_of(alloc, user)?;
-    let ledger = ArmedDevice::empty(alloc, orders.ledger.clone()?)?;
     let journal = ArmedDevice::empty(alloc, orders.journal.clone()?)?;
-    Ok(MemoryParts {
-        key,
-        ledger,
-        journal,
-    })
-}
-
-/// As a client takes it.
-fn given<A: Allocator + Copy>(alloc: A, parts: MemoryParts<A>) -> Result<ClientParts<A>, Memory>
-    ensures keys { IfOk result (λ p. p.keys.items ≡ (parts.key, parts.ledger) ∷ []) }
-    ensures journal { IfOk result (λ p. p.journal ≡ parts.journal) }
-{
-    let MemoryParts {
-        key,
-        ledger,
-        journal,
-    } = parts;
+    let made = new_key(alloc, user, 0, orders);
+    let (journal, (key, ledger)) = beside(journal, made)?;
     Parts::of_one(alloc, key, ledger, journal)
 }
 
-/// What a client with one key handed back.
-fn taken_back<A: Allocator + Copy>(parts: ClientParts<A>) -> MemoryParts<A>
-    requires { length parts.keys.items ≡ 1 }
-    ensures keys { parts.keys.items ≡ (result.key, result.ledger) ∷ [] }
-    ensures journal { result.journal ≡ parts.journal }
+/// Keys with one more.
+fn with_key<A: Allocator + Copy>(
+    keys: Vec<MemoryKey<A>, A>,
+    key: MemoryKey<A>,
+) -> Result<Vec<MemoryKey<A>, A>, Memory>
+    ensures { IfOk result (λ new. new.items ≡ keys.items ++ key ∷ []) }
 {
-    let Some((key, ledger, journal)) = parts.last() else {
-        unreachable!()
-    };
-    MemoryParts {
-        key,
-        ledger,
-        journal,
-    }
+    let mut keys = keys;
+    let pushed = keys.push(key);
+    let (keys, ()) = beside(keys, pushed)?;
+    Ok(keys)
+}
+
+/// The parts of a closed client with a key more.
+fn gained<A: Allocator + Copy>(
+    alloc: A,
+    user: User,
+    orders: &Orders<A>,
+    parts: MemoryParts<A>,
+) -> Result<MemoryParts<A>, Memory>
+    requires own { IsOf (owner script_keys user) (Slot.Closed parts) }
+    requires fewer { length parts.keys.items < length (script_keys user) }
+    ensures gained { IfOk result (λ new. HasGained (owner script_keys user) (parts_in parts) (parts_in new)) }
+    ensures own { IfOk result (λ new. IsOf (owner script_keys user) (Slot.Closed new)) }
+{
+    let made = new_key(alloc, user, parts.keys.len() as u8, orders);
+    let (parts, key) = beside(parts, made)?;
+    let Parts { keys, journal } = parts;
+    let keys = with_key(keys, key);
+    let (journal, keys) = beside(journal, keys)?;
+    Ok(Parts { keys, journal })
 }
 
 /// The text that an opened client has to send again, if there is one.
@@ -162,13 +188,12 @@ fn open<A: Allocator + Copy>(
     pinned: PublicKey,
     parts: MemoryParts<A>,
 ) -> Result<(Slot<A>, Answer<A>), Memory>
-    requires pinned { pinned ≡ public_key script_keys 0 }
+    requires pinned { pinned ≡ pinned_key script_keys }
     requires own { IsOf (owner script_keys user) (Slot.Closed parts) }
     ensures step { IfOk result (λ r. ComesOf (owner script_keys user) (client_in (Slot.Closed parts)) Act.Open r.1
         (client_in r.0)) }
     ensures own { IfOk result (λ r. IsOf (owner script_keys user) r.0) }
 {
-    let parts = given(alloc, parts)?;
     match client_steps::open(alloc, user, pinned, parts) {
         Ok(client) => {
             let phase = client.phase();
@@ -176,91 +201,45 @@ fn open<A: Allocator + Copy>(
             let (client, text) = beside(client, text)?;
             Ok((Slot::Open(client), Answer::Opened(phase, text)))
         }
-        Err((error, parts)) => {
-            let parts = taken_back(parts);
-            Ok((Slot::Closed(parts), Answer::Refused(error)))
-        }
+        Err((error, parts)) => Ok((Slot::Closed(parts), Answer::Refused(error))),
     }
 }
 
-/// Whether a crash may leave these bytes on the devices of a ledger and of a journal.
-fn may_leave<A: Allocator + Copy>(
-    ledger: &ArmedDevice<A>,
-    journal: &ArmedDevice<A>,
-    ledger_left: &[u8],
-    journal_left: &[u8],
-) -> bool
-    ensures yes { result ≡ true → MayLeaveBoth ledger.now.history journal.now.history ledger_left.now journal_left.now }
-    ensures no { result ≡ false → MayLeaveBoth ledger.now.history journal.now.history ledger_left.now journal_left.now
-        → ⊥ }
-{
-    ledger.may_leave(ledger_left) && journal.may_leave(journal_left)
-}
-
-/// A device after a crash that left these bytes: what a crash may leave it leaves, unless memory runs out.
-fn left_over<A: Allocator + Copy>(
+/// Has a closed client gain its next key, if there is one.
+fn gain<A: Allocator + Copy>(
     alloc: A,
-    device: ArmedDevice<A>,
-    left: &[u8],
-) -> Result<ArmedDevice<A>, Memory>
-    ensures { IfOk result (λ after. after.history ≡ started left.now) }
+    user: User,
+    orders: &Orders<A>,
+    parts: MemoryParts<A>,
+) -> Result<(Slot<A>, Answer<A>), Memory>
+    requires { IsOf (owner script_keys user) (Slot.Closed parts) }
+    ensures step { IfOk result (λ r. ComesOf (owner script_keys user) (client_in (Slot.Closed parts)) Act.Gain r.1
+        (client_in r.0)) }
+    ensures own { IfOk result (λ r. IsOf (owner script_keys user) r.0) }
 {
-    let left = Vec::from_slice(alloc, left);
-    let (device, left) = beside(device, left)?;
-    match device.crash(left) {
-        Ok(after) => Ok(after),
-        Err(refused) => {
-            let_go(refused);
-            Err(Memory)
-        }
+    if parts.keys.len() >= most_keys(user) {
+        return Ok((Slot::Closed(parts), Answer::NotTaken));
     }
+    let parts = gained(alloc, user, orders, parts)?;
+    Ok((Slot::Closed(parts), Answer::Gained))
 }
 
-/// Both devices after a crash that left these bytes.
-fn both_left_over<A: Allocator + Copy>(
-    alloc: A,
-    ledger: ArmedDevice<A>,
-    journal: ArmedDevice<A>,
-    ledger_left: &[u8],
-    journal_left: &[u8],
-) -> Result<(ArmedDevice<A>, ArmedDevice<A>), Memory>
-    ensures ledger { IfOk result (λ both. both.0.history ≡ started ledger_left.now) }
-    ensures journal { IfOk result (λ both. both.1.history ≡ started journal_left.now) }
-{
-    let journal = left_over(alloc, journal, journal_left);
-    match left_over(alloc, ledger, ledger_left) {
-        Ok(ledger) => beside(ledger, journal),
-        Err(error) => {
-            let_go(journal);
-            Err(error)
-        }
-    }
-}
-
-/// What is on the devices after a crash that left these bytes, as it may.
-fn crash<A: Allocator + Copy>(
+/// What is closed after a crash that left these bytes on its devices, as it may.
+fn crashed<A: Allocator + Copy>(
     alloc: A,
     parts: MemoryParts<A>,
-    ledger_left: &[u8],
-    journal_left: &[u8],
-) -> Result<MemoryParts<A>, Memory>
-    requires { MayLeaveBoth parts.ledger.history parts.journal.history ledger_left.now journal_left.now }
-    ensures ledger { IfOk result (λ p. p.ledger.history ≡ started ledger_left.now) }
-    ensures journal { IfOk result (λ p. p.journal.history ≡ started journal_left.now) }
-    ensures key { IfOk result (λ p. p.key ≡ parts.key) }
+    ledgers: &[Vec<u8, A>],
+    journal: &[u8],
+) -> Result<(Slot<A>, Answer<A>), Memory>
+    requires { length parts.keys.items ≡ length ledgers.now }
+    ensures closed { IfOk result (λ r. IsLeftWith (map vec_items ledgers.now) journal.now
+        (secrets_in parts.keys.items) r.0) }
+    ensures answer { IfOk result (λ r. r.1 ≡ Answer.Crashed) }
 {
-    let MemoryParts {
-        key,
-        ledger,
-        journal,
-    } = parts;
-    let devices = both_left_over(alloc, ledger, journal, ledger_left, journal_left);
-    let (key, (ledger, journal)) = beside(key, devices)?;
-    Ok(MemoryParts {
-        key,
-        ledger,
-        journal,
-    })
+    let mut parts = parts;
+    let done = crash(alloc, &mut parts, ledgers, journal);
+    let (parts, ()) = beside(parts, done)?;
+    Ok((Slot::Closed(parts), Answer::Crashed))
 }
 
 /// A step of a closed client.
@@ -268,10 +247,11 @@ fn closed_step<A: Allocator + Copy>(
     alloc: A,
     user: User,
     pinned: PublicKey,
+    orders: &Orders<A>,
     parts: MemoryParts<A>,
     act: &Act<A>,
 ) -> Result<(Slot<A>, Answer<A>), Memory>
-    requires pinned { pinned ≡ public_key script_keys 0 }
+    requires pinned { pinned ≡ pinned_key script_keys }
     requires own { IsOf (owner script_keys user) (Slot.Closed parts) }
     ensures step { IfOk result (λ r. ComesOf (owner script_keys user) (client_in (Slot.Closed parts)) act.now r.1
         (client_in r.0)) }
@@ -279,12 +259,12 @@ fn closed_step<A: Allocator + Copy>(
 {
     match act {
         Act::Open => open(alloc, user, pinned, parts),
-        Act::Crash(ledger, journal) => {
-            if !may_leave(&parts.ledger, &parts.journal, ledger, journal) {
+        Act::Gain => gain(alloc, user, orders, parts),
+        Act::Crash(ledgers, journal) => {
+            if !may_leave(&parts, ledgers, journal) {
                 return Ok((Slot::Closed(parts), Answer::NotTaken));
             }
-            let parts = crash(alloc, parts, ledger, journal)?;
-            Ok((Slot::Closed(parts), Answer::Crashed))
+            crashed(alloc, parts, ledgers, journal)
         }
         _ => Ok((Slot::Closed(parts), Answer::NotTaken)),
     }
@@ -296,21 +276,19 @@ fn open_step<A: Allocator + Copy>(
     client: MemoryClient<A>,
     act: &Act<A>,
 ) -> Result<(Slot<A>, Answer<A>), Memory>
-    requires { length client.secrets ≡ 1 }
     ensures step { IfOk result (λ r. (o : Owner) → ComesOf o (Open client) act.now r.1 (client_in r.0)) }
-    ensures own { IfOk result (λ r. (o : Owner) → client.secrets ≡ o.secret ∷ [] → IsOf o r.0) }
+    ensures own { IfOk result (λ r. (o : Owner) → AreFirst client.secrets o.secrets → IsOf o r.0) }
 {
     match act {
         Act::Close => {
-            let parts = taken_back(close(client));
+            let parts = close(client);
             Ok((Slot::Closed(parts), Answer::Closed))
         }
-        Act::Crash(ledger, journal) => {
-            if !may_leave(client.ledger(), client.journal(), ledger, journal) {
+        Act::Crash(ledgers, journal) => {
+            if !open_may_leave(&client, ledgers, journal) {
                 return Ok((Slot::Open(client), Answer::NotTaken));
             }
-            let parts = crash(alloc, taken_back(close(client)), ledger, journal)?;
-            Ok((Slot::Closed(parts), Answer::Crashed))
+            crashed(alloc, close(client), ledgers, journal)
         }
         _ => {
             let mut client = client;
@@ -331,7 +309,7 @@ pub(crate) fn step<A: Allocator + Copy>(
     slot: Slot<A>,
     act: &Act<A>,
 ) -> Result<(Slot<A>, Answer<A>), Memory>
-    requires pinned { pinned ≡ public_key script_keys 0 }
+    requires pinned { pinned ≡ pinned_key script_keys }
     requires own { IsOf (owner script_keys user) slot }
     ensures step { IfOk result (λ r. ComesOf (owner script_keys user) (client_in slot) act.now r.1 (client_in r.0)) }
     ensures own { IfOk result (λ r. IsOf (owner script_keys user) r.0) }
@@ -339,9 +317,9 @@ pub(crate) fn step<A: Allocator + Copy>(
     match slot {
         Slot::Unmade => {
             let parts = first_parts(alloc, user, orders)?;
-            closed_step(alloc, user, pinned, parts, act)
+            closed_step(alloc, user, pinned, orders, parts, act)
         }
-        Slot::Closed(parts) => closed_step(alloc, user, pinned, parts, act),
+        Slot::Closed(parts) => closed_step(alloc, user, pinned, orders, parts, act),
         Slot::Open(client) => open_step(alloc, client, act),
     }
 }

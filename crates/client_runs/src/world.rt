@@ -16,8 +16,13 @@ pub enum Act<A: Allocator> {
     Open,
     /// It hands back what it was opened over.
     Close,
+    /// It gains its next key, with a ledger on which nothing stands. An open one can't, nor one that has all its keys:
+    /// four, or one of user 0.
+    Gain,
     /// It declares an operation of these changes, for which these blocks were laid out.
     Begin(Vec<Change<A>, A>, Vec<Vec<u8, A>, A>),
+    /// It signs the certificate that is declared once more, by its key of this number.
+    Resign(u8),
     /// It takes this reply to its certificate.
     Reply(Vec<u8, A>),
     /// It takes the block that the reply under check asks for, or its absence.
@@ -37,9 +42,9 @@ pub enum Act<A: Allocator> {
     Give(Option<Vec<u8, A>>),
     /// Its cache may have so many blocks from now on: 1 to 4,096. Else it can't.
     Cache(u16),
-    /// A crash leaves these bytes on the device of the ledger and these on that of the journal, where one may. It
-    /// closes an open client.
-    Crash(Vec<u8, A>, Vec<u8, A>),
+    /// A crash leaves these bytes on the devices of the ledgers, the first key's first, and these on that of the
+    /// journal, where one may. It closes an open client.
+    Crash(Vec<Vec<u8, A>, A>, Vec<u8, A>),
 }
 
 /// A step of a user's client.
@@ -49,7 +54,7 @@ pub struct WorldStep<A: Allocator> {
     pub user: User,
     /// What it is told to do.
     pub act: Act<A>,
-    /// How many calls of the ledger's device go well in this step before one fails, if one is to fail. No clause says
+    /// How many calls of the ledgers' devices go well in this step before one fails, if one is to fail. No clause says
     /// that it fails then, nor that no other does: tests show it.
     pub ledger_fails: Option<u64>,
     /// And of the journal's.
@@ -81,7 +86,9 @@ pub enum Answer<A: Allocator> {
     Refused(ClientError),
     /// The client is closed.
     Closed,
-    /// The signed certificate, as it is sent.
+    /// It has a key more.
+    Gained,
+    /// The signed certificate, as it is sent: of an operation that begins, or signed once more.
     Begun(Result<Vec<u8, A>, ClientError>),
     /// What the client asks for next, of a reply.
     Asks(Result<Step<A>, ClientError>),
