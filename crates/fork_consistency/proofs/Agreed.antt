@@ -18,10 +18,10 @@ use Rattle.agreement.proofs.Lines as lines
 use Rattle.agreement.proofs.Members.{In, contains_in, flat_map-in, in-append, in-left, in-map, in-right, in_contains, map-in, to_all}
 use Rattle.release_runs.specs.Steps as low
 use Rattle.release_runs.proofs.Stories.{IsStory, OfCert, OfStructure, Release, last_in}
-use Rattle.client_runs.specs.Runs.{Event, IsRun, Keys, client_of, owner, public_key}
+use Rattle.client_runs.specs.Runs.{Event, IsOwnKey, IsRun, Keys, client_of, owner, pinned as pinned_key}
 use Rattle.client_runs.specs.Released.{accepted_by, hashed, hashed_at, pending_texts, reply_texts, shown_cert, shown_structure, structure_texts, tried_view, views}
 use Rattle.fork_consistency.specs.Premises.{AreReleased, HasReleased, PinnedIsKey, Premises, everybody}
-use Rattle.fork_consistency.proofs.Genuine.{AllGenuine, all_genuine, genuine, released_later, released_structure}
+use Rattle.fork_consistency.proofs.Genuine.{AllGenuine, all_genuine, genuine, released_later, released_structure, pinned_own}
 use Rattle.fork_consistency.proofs.Holds.{IsTriedOver, known_in, signed_in}
 use Rattle.fork_consistency.proofs.Judging.{cert_by_super, cert_verified, own_last_is, structure_by_super, structure_fits, structure_verified, unbroken, unbroken_by, value_of, verified}
 use Rattle.client_runs.proofs.Lowering.{low_owner}
@@ -72,7 +72,7 @@ view_text x t i =
 
 -- the view's table lists no key but a user's own
 abbrev IsTrueTable : Keys → View → Type 0
-IsTrueTable keys x = (u : User) (v : Version) (k : Key) → key_at u v x.table ≡ Some k → k ≡ public_key keys u
+IsTrueTable keys x = (u : User) (v : Version) (k : Key) → key_at u v x.table ≡ Some k → IsOwnKey keys u k
 
 module _ (keys : Keys) where
   -- ---- an accepted view
@@ -86,7 +86,7 @@ module _ (keys : Keys) where
         (unbroken (known_in (owner keys u) h.story) (of_lists x.lists) over.good.judged.unbroken).last_is
         ∙ sym (last_view keys u older is ∙ ap first_of h.viewed ∙ first_in o h.story)
 
-    module _ (own : IsTrueTable keys x) where
+    module _ (own : IsTrueTable keys x) (mine : IsOwnKey keys 0 (pinned_key keys)) where
       -- a structure of the view was signed over an earlier one
       was_signed : (s : Signed Structure) → In s x.lists.structures → In s.value (map signed_in (views older))
       was_signed s j =
@@ -98,8 +98,8 @@ module _ (keys : Keys) where
           over.good.judged.was_shown (shown_structure s)
           (in-left (shown_structure s) (map shown_structure x.lists.structures) (map shown_cert (items x.lists)) (map-in shown_structure x.lists.structures s j)) in
           let signature =
-          verified (public_key keys) x.table own w (version_of 0 s.value.plan.vector) (structure.spell s.value) s.signature (structure_verified x.table x.lists by.structures s j) (structure_by_super (public_key keys 0) r rules.by_super s j) in
-          in_views keys w older s.value (released_structure keys older is w s.value (structure_fits r over.good.judged.fits s j) (genuine keys older none (shown_structure s) was signature))
+          verified (IsOwnKey keys) (pinned_key keys) x.table own mine w (version_of 0 s.value.plan.vector) (structure.spell s.value) s.signature (structure_verified x.table x.lists by.structures s j) (structure_by_super (pinned_key keys) r rules.by_super s j) in
+          in_views keys w older s.value (released_structure keys older is w s.value (structure_fits r over.good.judged.fits s j) (genuine keys older none (shown_structure s) was signature.0 signature.1 signature.2))
 
       accepted_over : Accepted (views older) x
       accepted_over = record {
@@ -124,19 +124,19 @@ module _ (keys : Keys) where
           let was =
           over.good.judged.was_shown (shown_cert i) (in-right (shown_cert i) (map shown_structure x.lists.structures) (map shown_cert (items x.lists)) (map-in shown_cert (items x.lists) i j)) in
           let signature =
-          verified (public_key keys) x.table own i.cert.user (version_of 0 i.plan.vector) (cert.spell i.cert) i.signature (cert_verified x.table x.lists by.certs i j) (cert_by_super (public_key keys 0) r rules.by_super i j) in
-          genuine keys older none (shown_cert i) was signature
+          verified (IsOwnKey keys) (pinned_key keys) x.table own mine i.cert.user (version_of 0 i.plan.vector) (cert.spell i.cert) i.signature (cert_verified x.table x.lists by.certs i j) (cert_by_super (pinned_key keys) r rules.by_super i j) in
+          genuine keys older none (shown_cert i) was signature.0 signature.1 signature.2
 
   -- ---- runs
 
   abbrev AllTrue : List Event → Type 0
   AllTrue run = (x : View) → In x (views run) → IsTrueTable keys x
 
-  accepted : (run : List Event) → IsRun keys run → AllGenuine keys run → AllTrue run → AreAccepted (views run)
-  accepted [] is none own = tt
-  accepted (e ∷ older) is none own =
+  accepted : IsOwnKey keys 0 (pinned_key keys) → (run : List Event) → IsRun keys run → AllGenuine keys run → AllTrue run → AreAccepted (views run)
+  accepted mine [] is none own = tt
+  accepted mine (e ∷ older) is none own =
       go (one_at_most e.call (client_of e.user older) e.after (tried_view e.user older))
-      (accepted older is.2 none.1 (λ y i. own y (in-right y (accepted_by e.call (client_of e.user older) e.after (tried_view e.user older)) (views older) i)))
+      (accepted mine older is.2 none.1 (λ y i. own y (in-right y (accepted_by e.call (client_of e.user older) e.after (tried_view e.user older)) (views older) i)))
     where
       go : (accepted_by e.call (client_of e.user older) e.after (tried_view e.user older) ≡ []) ⊎ ((x : View) × (accepted_by e.call (client_of e.user older) e.after (tried_view e.user older) ≡ x ∷ []))
           → AreAccepted (views older) → AreAccepted (accepted_by e.call (client_of e.user older) e.after (tried_view e.user older) ++ views older)
@@ -144,7 +144,7 @@ module _ (keys : Keys) where
       go (inr (x, one)) ih =
           let i = subst (λ (xs : List View). In x xs) (sym one) (inl refl) in
           subst (λ (xs : List View). AreAccepted (xs ++ views older)) (sym one)
-          (accepted_over older is.2 none.1 e.user x (over_here keys e older is x i) (own x (in-left x (accepted_by e.call (client_of e.user older) e.after (tried_view e.user older)) (views older) i)), ih)
+          (accepted_over older is.2 none.1 e.user x (over_here keys e older is x i) (own x (in-left x (accepted_by e.call (client_of e.user older) e.after (tried_view e.user older)) (views older) i)) mine, ih)
 
   hashed_text : (run : List Event) → IsRun keys run → (x : View) → In x (views run) → (t : Bytes) → In t (texts_of x) → In t (flat_map hashed_at run)
   hashed_text [] is x i t j = absurd i
@@ -155,13 +155,13 @@ module _ (keys : Keys) where
         | inr k ↦ hashed_text older is.2 x k t j
       ])
 
-  declared_item : (run : List Event) → IsRun keys run → AllGenuine keys run → AllTrue run → (x : View) → In x (views run) → (i : PendingItem) → In i (items x.lists) → HasReleased i.cert.user run (cert.spell i.cert)
-  declared_item [] is none own x k i j = absurd k
-  declared_item (e ∷ older) is none own x k i j =
+  declared_item : IsOwnKey keys 0 (pinned_key keys) → (run : List Event) → IsRun keys run → AllGenuine keys run → AllTrue run → (x : View) → In x (views run) → (i : PendingItem) → In i (items x.lists) → HasReleased i.cert.user run (cert.spell i.cert)
+  declared_item mine [] is none own x k i j = absurd k
+  declared_item mine (e ∷ older) is none own x k i j =
       released_later e older i.cert.user (cert.spell i.cert)
       (elim (in-append x (accepted_by e.call (client_of e.user older) e.after (tried_view e.user older)) (views older) k) [
-        | inl here ↦ was_declared older is.2 none.1 e.user x (over_here keys e older is x here) (own x k) i j
-        | inr there ↦ declared_item older is.2 none.1 (λ y l. own y (in-right y (accepted_by e.call (client_of e.user older) e.after (tried_view e.user older)) (views older) l)) x there i j
+        | inl here ↦ was_declared older is.2 none.1 e.user x (over_here keys e older is x here) (own x k) mine i j
+        | inr there ↦ declared_item mine older is.2 none.1 (λ y l. own y (in-right y (accepted_by e.call (client_of e.user older) e.after (tried_view e.user older)) (views older) l)) x there i j
       ])
 
 -- ---- the laws
@@ -173,13 +173,16 @@ module _ (keys : Keys) (run : List Event) (is : IsRun keys run) (is_key : Pinned
   all_true : (x : View) → In x (views run) → IsTrueTable keys x
   all_true x i u v k at = own_key_at everybody keys run is (super_honest keys run is_key premises) premises.added x i u v k tt at
 
+  mine : IsOwnKey keys 0 (pinned_key keys)
+  mine = pinned_own keys is_key
+
   pub are_accepted : AreAccepted (views run)
-  are_accepted = accepted keys run is all_released_texts all_true
+  are_accepted = accepted keys mine run is all_released_texts all_true
 
   in_hashed : (b : Bytes) → Contains (flat_map texts_of (views run)) b → Contains (hashed keys run) b
   in_hashed b has =
       let (x, i, j) = flat_map-of texts_of (views run) b (contains_in b (flat_map texts_of (views run)) has) in
-      in_contains b (hashed keys run) (in-left b (flat_map hashed_at run) (first_texts (public_key keys 0)) (hashed_text keys run is x i b j))
+      in_contains b (hashed keys run) (in-left b (flat_map hashed_at run) (first_texts (pinned_key keys)) (hashed_text keys run is x i b j))
 
   pub apart : NoViewCollision (views run)
   apart b c has_b has_c same = premises.no_collision b c (in_hashed b has_b) (in_hashed c has_c) same
@@ -201,7 +204,7 @@ module _ (keys : Keys) (run : List Event) (is : IsRun keys run) (is_key : Pinned
 
   -- the certificate of each operation that is pending in an accepted view was released
   pub item_released : (x : View) → In x (views run) → (i : PendingItem) → In i (items x.lists) → HasReleased i.cert.user run (cert.spell i.cert)
-  item_released x n i j = declared_item keys run is all_released_texts all_true x n i j
+  item_released x n i j = declared_item keys mine run is all_released_texts all_true x n i j
 
   pub all_released : AreReleased run
   all_released = to_all (λ x. All (λ c. HasReleased c.user run (cert.spell c)) (line (views run) x)) (views run) (λ x i. to_all (λ c. HasReleased c.user run (cert.spell c)) (line (views run) x) (λ c j. of_line x c j))
@@ -211,4 +214,4 @@ module _ (keys : Keys) (run : List Event) (is : IsRun keys run) (is_key : Pinned
           let k = subst (λ (l : List Cert). In c l) (sym (lines.line_certs (views run) (user_of x) (number_of x))) j in
           let (i, m, same) = in-map (λ (i : PendingItem). i.cert) (lines.items_at (views run) (user_of x) (number_of x)) c k in
           let (y, n, p) = lines.line_pending (views run) (user_of x) (number_of x) i m in
-          subst (λ (d : Cert). HasReleased d.user run (cert.spell d)) (sym same) (declared_item keys run is all_released_texts all_true y n i p)
+          subst (λ (d : Cert). HasReleased d.user run (cert.spell d)) (sym same) (declared_item keys mine run is all_released_texts all_true y n i p)

@@ -24,7 +24,7 @@ use Rattle.agreement.specs.Runs.{View, structures, AreAccepted}
 use Rattle.agreement.proofs.Formed.{cert_fits}
 use Rattle.agreement.proofs.Members.{In, contains_in, in-left, in-map, in-right, map-in, of_all}
 use Rattle.client_runs.specs.Released.{Shown, shown_cert, shown_in, shown_structure, views}
-use Rattle.client_runs.specs.Runs.{Event, IsRun, Keys, public_key}
+use Rattle.client_runs.specs.Runs.{Event, IsRun, Keys, pinned}
 use Rattle.client_runs.proofs.Replies.{of_lists}
 use Rattle.fork_consistency.specs.Premises.{HasReleased, PinnedIsKey, Premises}
 use Rattle.fork_consistency.proofs.Agreed.{are_accepted, item_released}
@@ -103,11 +103,11 @@ module _ (texts : List Bytes) (apart : NoneCollide texts texts) (key : Key) (fir
 
 -- ---- over a run
 
-module _ (keys : Keys) (run : List Event) (is : IsRun keys run) (is_key : PinnedIsKey keys) (premises : Premises keys run) (texts : List Bytes) (apart : NoneCollide texts texts) (first : (t : Bytes) → In t (first_texts (public_key keys 0)) → In t texts) (inside : AreBlocks keys texts apart first run) where
+module _ (keys : Keys) (run : List Event) (is : IsRun keys run) (is_key : PinnedIsKey keys) (premises : Premises keys run) (texts : List Bytes) (apart : NoneCollide texts texts) (first : (t : Bytes) → In t (first_texts (pinned keys)) → In t texts) (inside : AreBlocks keys texts apart first run) where
   abbrev pinned_key : Key
-  pinned_key = public_key keys 0
+  pinned_key = pinned keys
 
-  abbrev pinned_fits : key_form.Fits (public_key keys 0)
+  abbrev pinned_fits : key_form.Fits (pinned keys)
   pinned_fits = is_key
 
   -- a certificate that its user's client released was begun with contents that were laid out

@@ -1,6 +1,6 @@
 -- Each certificate that a client released was begun with contents that were laid out: in texts of which something holds, as
 -- that they are among the texts of the run.
-use Rattle.std.proofs.Common.{◌≡◌, ℕ, ◌+◌, Bool, true, false, ◌==◌, List, [], ◌∷◌, ◌++◌, Option, Some, None, Ok, Err, refl, sym, ap, ◌∙◌, subst, inl, inr, if◌then◌else◌}
+use Rattle.std.proofs.Common.{◌≡◌, ℕ, ◌+◌, Bool, true, false, ◌==◌, List, [], ◌∷◌, ◌++◌, Option, Some, None, Ok, Err, IfSome, refl, sym, ap, ◌∙◌, subst, inl, inr, if◌then◌else◌}
 use Rattle.std.specs.List.{flat_map}
 use Rattle.std.proofs.lemmas.Bool.{eqb-true}
 use Rattle.layout.specs.Types.{Bytes, Digest, User}
@@ -13,6 +13,7 @@ use Rattle.wire.specs.declared.kinds.Status.{Status}
 use Rattle.wire.specs.declared.kinds.Status.TheVariants as status
 use Rattle.client_releases.specs.declared.error.ClientError.{ClientError}
 use Rattle.client_releases.specs.declared.error.ClientError.TheVariants as error
+use Rattle.client_releases.specs.declared.phase.Phase.TheVariants as phase
 use Rattle.client_releases.specs.Told.{Released, cert_in}
 use Rattle.client_verify.specs.Laid.{are_laid}
 use Rattle.client_verify.specs.State.{Ready, State, newest_key, next_cert, next_structure, released as released_in_state, signing_key}
@@ -21,16 +22,17 @@ use Rattle.release_runs.proofs.Files.{lies_on, still_sure}
 use Rattle.release_runs.proofs.Holds as low_holds
 use Rattle.release_runs.proofs.Opening.{IsOf, opened_holds}
 use Rattle.release_runs.proofs.Once.{came}
-use Rattle.release_runs.proofs.Releasing.{IsTriedCert, IsTriedStructure, declare_fails, declares, sign_fails, signs}
+use Rattle.release_runs.proofs.Releasing.{IsTriedCert, IsTriedStructure, declare_fails, declares, resign_fails, resigns, sign_fails, signs}
 use Rattle.release_runs.proofs.Runs as low_runs
-use Rattle.release_runs.proofs.Stories.{OfCert, OfStructure, Release, cert_of, text as release_text}
+use Rattle.release_runs.proofs.Stories.{IsAfter, IsCertAfter, OfCert, OfStructure, Release, cert_of, phase_in, text as release_text}
 use Rattle.release_runs.proofs.Texts.{no_cert}
 use Rattle.release_runs.specs.Steps as low
-use Rattle.client_steps.specs.Steps.{Begins, Caches, Call, Client, Closed, Closes, Commits, Crashes, Gives, HasBegun, HasCommitted, HasSigned, Hears, IsHandedBack, IsLeft, IsOpened, IsRefused, IsSound, IsStep, Looks, Open, Opens, Owner, Parts, Signs, Takes, first}
+use Rattle.client_steps.specs.Steps.{Begins, Caches, Call, Client, Closed, Closes, Commits, Crashes, Gains, Gives, HasBegun, HasCommitted, HasGained, HasResigned, HasSigned, Hears, IsHandedBack, IsLeft, IsOpened, IsRefused, IsSound, IsStep, Looks, Open, Opens, Owner, Parts, Resigns, Signs, Takes, first}
+use Rattle.fork_consistency.proofs.Holds.{told_declared}
 use Rattle.fork_consistency.proofs.BlocksOf.{are_hashed, blocks_at, blocks_by}
 use Rattle.client_runs.specs.Released.{hashed_at, released, released_by}
 use Rattle.client_runs.specs.Runs.{Event, IsRun, Keys, client_of, owner}
-use Rattle.client_runs.proofs.Lowering.{HasOneLedger, low_begin_failed, low_begun, low_client, low_handed_back, low_left, low_opened, low_owner, low_parts, low_sign_failed, low_signed, one_ledger, with_ready}
+use Rattle.client_runs.proofs.Lowering.{low_begin_failed, low_begun, low_client, low_gained, low_handed_back, low_left, low_opened, low_owner, low_parts, low_resign_failed, low_resigned, low_sign_failed, low_signed, with_ready}
 use Rattle.client_runs.proofs.Quiet.{gives, hears, looks, takes}
 use Rattle.client_runs.proofs.Replies.{Kept}
 
@@ -86,11 +88,11 @@ module _ (Inside : Cert → List Bytes → Type 0) where
 
     -- ---- closed clients
 
-    left : (before : Client) (sent : List Bytes) (p : Parts) → Holds before sent → HasOneLedger before → IsLeft before p → Holds (Closed p) sent
-    left before sent p h one is =
+    left : (before : Client) (sent : List Bytes) (p : Parts) → Holds before sent → IsLeft before p → Holds (Closed p) sent
+    left before sent p h is =
         with_low before (Closed p) sent sent h
         (low_holds.closes (low_owner o) (Unit {0}) (Unit {0}) h.story h.tried sent (λ t. t) (low_client before) (low_parts p) h.low
-        (low_runs.left (low_owner o) h.story h.tried (low_client before) h.low.lies (low_parts p) (low_left before p one is)))
+        (low_runs.left (low_owner o) h.story h.tried (low_client before) h.low.lies (low_parts p) (low_left before p is)))
 
     refused : (p : Parts) (e : ClientError) (q : Parts) (sent : List Bytes) → Holds (Closed p) sent → IsRefused o p e q → Holds (Closed q) sent
     refused p e q sent h is =
@@ -98,11 +100,18 @@ module _ (Inside : Cert → List Bytes → Type 0) where
         (low_holds.closes (low_owner o) (Unit {0}) (Unit {0}) h.story h.tried sent (λ t. t) (low_client (Closed p)) (low_parts q) h.low
         (lies_on (low_owner o) h.story h.tried (low_parts p).ledgers (low_parts q).ledgers p.journal.history q.journal.history h.low.lies (still_sure (low_parts p).ledgers (low_parts q).ledgers is.moments.ledgers) is.moments.records))
 
-    handed_back : (s : State) (p : Parts) (sent : List Bytes) → Holds (Open s) sent → HasOneLedger (Open s) → IsHandedBack s p → Holds (Closed p) sent
-    handed_back s p sent h one is =
+    gained : (p q : Parts) (sent : List Bytes) → Holds (Closed p) sent → HasGained o p q → Holds (Closed q) sent
+    gained p q sent h is =
+        let more = low_gained o p q is in
+        with_low (Closed p) (Closed q) sent sent h
+        (low_holds.closes (low_owner o) (Unit {0}) (Unit {0}) h.story h.tried sent (λ t. t) (low_client (Closed p)) (low_parts q) h.low
+        (low_runs.gained (low_owner o) h.story h.tried (low_client (Closed p)) h.low.lies (low_parts q) more.ledgers more.journal))
+
+    handed_back : (s : State) (p : Parts) (sent : List Bytes) → Holds (Open s) sent → IsHandedBack s p → Holds (Closed p) sent
+    handed_back s p sent h is =
         with_low (Open s) (Closed p) sent sent h
         (low_holds.closes (low_owner o) (Unit {0}) (Unit {0}) h.story h.tried sent (λ t. t) (low_client (Open s)) (low_parts p) h.low
-        (low_runs.handed_back (low_owner o) h.story h.tried (low_client (Open s)) h.low.lies (low_parts p) (low_handed_back s p one is).ledgers is.journal))
+        (low_runs.handed_back (low_owner o) h.story h.tried (low_client (Open s)) h.low.lies (low_parts p) (low_handed_back s p is).ledgers is.journal))
 
     opens : (p : Parts) (s : State) (x : Unit {0}) (sent : List Bytes) → Holds (Closed p) sent → IsOpened o p s → IsSound (Open s) → After sent (Opens (Ok x)) (Open s)
     opens p s x sent h is sound =
@@ -164,6 +173,48 @@ module _ (Inside : Cert → List Bytes → Type 0) where
         tried_cert some (inl none) = subst TriedIsBegun (sym none) tt
         tried_cert some (inr (q, one)) = subst TriedIsBegun (sym one) (record { laid = laid; inside = inside; are = b.were_laid })
 
+    -- the certificate that is declared was begun so
+    declared_begun : (story : List Release) (c : Cert) → phase_in story ≡ phase.Declared → IsCertAfter story c → AreBegun story → IsBegun c
+    declared_begun [] c now turn certs = absurd (cc now)
+    declared_begun (OfCert n d q ∷ older) c now turn certs = subst IsBegun (sym turn) (certs n d q (inl refl))
+    declared_begun (OfStructure n z q ∷ older) c now turn certs = absurd (cc now)
+
+    module _ (s new : State) (n : ℕ) (sent : List Bytes) (h : Holds (Open s) sent) where
+      at_declared : s.phase ≡ phase.Declared → phase_in h.story ≡ phase.Declared
+      at_declared now = told_declared (phase_in h.story) s.phase (h.low.own.stands (λ down. let two : phase.Declared ≡ phase.Failed = sym now ∙ down in cc two)).phase now
+
+      resigns_ok : (text : Bytes) → HasResigned s n (Ok text) new → After sent (Resigns n (Ok text)) (Open new)
+      resigns_ok text b =
+          let k = resigns (low_owner o) (Unit {0}) h.story h.tried sent (released_in_state s) h.low n (released_in_state new) text (low_resigned s new n text b) in
+          let begun = declared_begun h.story k.0 (at_declared b.declared) k.2.is_story.0.next.turn h.certs in
+          record {
+            story = OfCert n k.0 k.1 ∷ h.story;
+            tried = None;
+            low = low_holds.where_in_turn (low_owner o) (Unit {0} × Unit {0}) (Unit {0}) (OfCert n k.0 k.1 ∷ h.story) None (low_client (Open new)) (text ∷ sent) (λ _. (tt, tt)) k.2;
+            certs = λ m c q i. elim i [
+              | inl e ↦ (let same : c ≡ k.0 = cc e in subst IsBegun (sym same) begun)
+              | inr j ↦ h.certs m c q j
+            ];
+            last = tt;
+          }
+
+      resign_fails_here : HasResigned s n (Err error.Device) new → Holds (Open new) sent
+      resign_fails_here b =
+          let k = resign_fails (low_owner o) (Unit {0}) h.story h.tried sent (released_in_state s) h.low n (released_in_state new) error.Device (low_resign_failed s new n b) in
+          record {
+            story = h.story;
+            tried = k.1;
+            low = low_holds.where_in_turn (low_owner o) (Unit {0} × Unit {0}) (Unit {0}) h.story k.1 (low_client (Open new)) sent (λ _. (tt, tt)) k.3;
+            certs = h.certs;
+            last = tried_again k.0 k.1 k.2 k.3.is_tried;
+          }
+        where
+          tried_again : (c : Cert) (some : Option Release) → IsTriedCert n c some → IfSome some (IsAfter (low_owner o) h.story) → TriedIsBegun some
+          tried_again c some (inl none) after = subst TriedIsBegun (sym none) tt
+          tried_again c some (inr (q, one)) after =
+              let next = subst (λ (t : Option Release). IfSome t (IsAfter (low_owner o) h.story)) one after in
+              subst TriedIsBegun (sym one) (declared_begun h.story c (at_declared b.declared) next.next.turn h.certs)
+
     signs_ok : (s new : State) (y : Ready) → s.accepted ≡ Some y → (text : Bytes) (sent : List Bytes) → IsSound (Open s) → Holds (Open s) sent → HasSigned s (Ok text) new → After sent (Signs (Ok text)) (Open new)
     signs_ok s new y ready text sent always h b =
         let k = signs (low_owner o) (Unit {0}) h.story h.tried sent (released_in_state s) h.low (signing_key s y) (next_structure s y) (released_in_state new) text (low_signed s new y ready text always b) in
@@ -202,10 +253,11 @@ module _ (Inside : Cert → List Bytes → Type 0) where
     step : (before : Client) (call : Call) (after : Client) (sent : List Bytes) → LaysSuch before call → IsSound before → Holds before sent → IsStep o before call after → IsSound after → After sent call after
     step (Closed p) (Opens (Ok x)) (Open s) sent into was h is sound = opens p s x sent h is sound
     step (Closed p) (Opens (Err e)) (Closed q) sent into was h is sound = refused p e q sent h is
-    step (Closed p) Crashes (Closed q) sent into was h is sound = left (Closed p) sent q h tt is
+    step (Closed p) Crashes (Closed q) sent into was h is sound = left (Closed p) sent q h is
+    step (Closed p) Gains (Closed q) sent into was h is sound = gained p q sent h is
     step (Closed p) call after sent into was h is sound = absurd is
-    step (Open s) Closes (Closed p) sent into was h is sound = handed_back s p sent h (one_ledger s o.secret was.0 h.low.own.opened h.low.own.secrets) is
-    step (Open s) Crashes (Closed p) sent into was h is sound = left (Open s) sent p h (one_ledger s o.secret was.0 h.low.own.opened h.low.own.secrets) is
+    step (Open s) Closes (Closed p) sent into was h is sound = handed_back s p sent h is
+    step (Open s) Crashes (Closed p) sent into was h is sound = left (Open s) sent p h is
     step (Open s) (Begins changes laid (Ok text)) (Open new) sent into was h is sound = begins s new changes laid text sent was into h is
     step (Open s) (Begins changes laid (Err error.Device)) (Open new) sent into was h is sound = begin_fails s new changes laid sent was into h is
     step (Open s) (Begins changes laid (Err error.Memory)) (Open new) sent into was h is sound = same_as s new sent h (is.err (λ d. cc d))
@@ -214,6 +266,14 @@ module _ (Inside : Cert → List Bytes → Type 0) where
     step (Open s) (Begins changes laid (Err error.NoKey)) (Open new) sent into was h is sound = same_as s new sent h (is.err (λ d. cc d))
     step (Open s) (Begins changes laid (Err error.Foreign)) (Open new) sent into was h is sound = same_as s new sent h (is.err (λ d. cc d))
     step (Open s) (Begins changes laid (Err error.Damaged)) (Open new) sent into was h is sound = same_as s new sent h (is.err (λ d. cc d))
+    step (Open s) (Resigns n (Ok text)) (Open new) sent into was h is sound = resigns_ok s new n sent h text is
+    step (Open s) (Resigns n (Err error.Device)) (Open new) sent into was h is sound = resign_fails_here s new n sent h is
+    step (Open s) (Resigns n (Err error.Memory)) (Open new) sent into was h is sound = same_as s new sent h (is.err (λ d. cc d))
+    step (Open s) (Resigns n (Err error.NoLeaf)) (Open new) sent into was h is sound = same_as s new sent h (is.err (λ d. cc d))
+    step (Open s) (Resigns n (Err error.NoNumber)) (Open new) sent into was h is sound = same_as s new sent h (is.err (λ d. cc d))
+    step (Open s) (Resigns n (Err error.NoKey)) (Open new) sent into was h is sound = same_as s new sent h (is.err (λ d. cc d))
+    step (Open s) (Resigns n (Err error.Foreign)) (Open new) sent into was h is sound = same_as s new sent h (is.err (λ d. cc d))
+    step (Open s) (Resigns n (Err error.Damaged)) (Open new) sent into was h is sound = same_as s new sent h (is.err (λ d. cc d))
     step (Open s) (Hears text answer) (Open new) sent into was h is sound = same_released s new sent h (hears s text answer new is)
     step (Open s) (Takes block answer) (Open new) sent into was h is sound = same_released s new sent h (takes s block answer new is)
     step (Open s) (Signs (Ok text)) (Open new) sent into was h is sound = with_ready s (After sent (Signs (Ok text)) (Open new)) is.ready (λ y ready. signs_ok s new y ready text sent was h is)

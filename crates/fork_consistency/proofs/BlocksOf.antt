@@ -4,7 +4,7 @@ use Rattle.std.specs.List.{flat_map}
 use Rattle.std.specs.Option.{option_map_or}
 use Rattle.layout.specs.Types.{Bytes}
 use Rattle.reply_check.specs.FirstBroken.{reply_in}
-use Rattle.client_steps.specs.Steps.{Begins, Caches, Call, Closes, Commits, Crashes, Gives, Hears, Looks, Opens, Signs, Takes}
+use Rattle.client_steps.specs.Steps.{Begins, Caches, Call, Closes, Commits, Crashes, Gains, Gives, Hears, Looks, Opens, Resigns, Signs, Takes}
 use Rattle.client_runs.specs.Released.{hashed_at, hashed_by, reply_texts, stored_texts, unless_memory}
 use Rattle.client_runs.specs.Runs.{Event}
 use Rattle.agreement.proofs.Members.{In, in-append, in-left, in-right}
@@ -28,7 +28,9 @@ by_hashed (Takes block answer) t i = i
 by_hashed (Gives block answer) t i = i
 by_hashed (Opens answer) t i = absurd i
 by_hashed Closes t i = absurd i
+by_hashed Gains t i = absurd i
 by_hashed Crashes t i = absurd i
+by_hashed (Resigns n answer) t i = absurd i
 by_hashed (Signs answer) t i = absurd i
 by_hashed (Commits status) t i = absurd i
 by_hashed (Looks q answer) t i = absurd i

@@ -9,7 +9,7 @@ use Rattle.agreement.specs.Runs.{View}
 use Rattle.agreement.proofs.Members.{In, in-left, in-right, to_all}
 use Rattle.fork_consistency.specs.Premises.{IsGenuine, NoCollision, NoneForgedOf, PinnedIsKey, Premises, everybody}
 use Rattle.client_runs.specs.Released.{Shown, hashed, hashed_at, shown_by, views}
-use Rattle.client_runs.specs.Runs.{Event, IsRun, Keys, public_key}
+use Rattle.client_runs.specs.Runs.{Event, IsRun, Keys, pinned as pinned_key}
 use Rattle.client_runs.specs.UsedOnce.{LeavesOnce}
 use Rattle.fork_consistency.proofs.Genuine.{IsReleasedText}
 use Rattle.client_runs.proofs.Once.{leaves_once}
@@ -19,11 +19,11 @@ use Rattle.fork_consistency.proofs.Tables.{IsView, SuperGenuine, all_views}
 
 -- ---- what user 0 signed is genuine
 
-module _ (keys : Keys) (whole : List Event) (once : (u : User) → LeavesOnce u whole) where
+module _ (keys : Keys) (whole : List Event) (once : (u : User) → LeavesOnce keys u whole) where
   super_genuine : (run : List Event) → NoneForgedOf (λ u. u ≡ 0) keys whole run → SuperGenuine keys run
   super_genuine [] none = tt
   super_genuine (e ∷ older) none =
-      (All-weaker (λ (t : Shown). t.user ≡ 0 → IsGenuine keys whole older t) (λ (t : Shown). t.user ≡ 0 → IsReleasedText keys older t) (λ t g zero v. g zero (once t.user) (public_key keys t.user) refl v) (shown_by e.call) none.0, super_genuine older none.1)
+      (All-weaker (λ (t : Shown). t.user ≡ 0 → IsGenuine keys whole older t) (λ (t : Shown). t.user ≡ 0 → IsReleasedText keys older t) (λ t g zero. g zero (once t.user)) (shown_by e.call) none.0, super_genuine older none.1)
 
 -- where none is forged of some users, none is of some of these
 pub fewer_forged : (some few : User → Type 0) → ((u : User) → few u → some u) → (keys : Keys) (whole run : List Event) → NoneForgedOf some keys whole run → NoneForgedOf few keys whole run
@@ -46,16 +46,16 @@ module _ (keys : Keys) (run : List Event) (is : IsRun keys run) (honest : SuperI
   abbrev texts : List Bytes
   texts = hashed keys run
 
-  pub first_in : (t : Bytes) → In t (first_texts (public_key keys 0)) → In t texts
-  first_in t i = in-right t (flat_map hashed_at run) (first_texts (public_key keys 0)) i
+  pub first_in : (t : Bytes) → In t (first_texts (pinned_key keys)) → In t texts
+  first_in t i = in-right t (flat_map hashed_at run) (first_texts (pinned_key keys)) i
 
   pub view : (x : View) → In x (views run) → IsView keys run is honest.pinned texts honest.no_collision first_in x
   view =
       all_views keys run is honest.pinned texts honest.no_collision first_in run is (super_genuine keys run (λ u. leaves_once keys run u is) run honest.no_forgery) (λ text has. has)
-      (λ t i. in-left t (flat_map hashed_at run) (first_texts (public_key keys 0)) i)
+      (λ t i. in-left t (flat_map hashed_at run) (first_texts (pinned_key keys)) i)
 
   pub by_certificates : AreByCertificates keys run
-  by_certificates = to_all (λ x. IsByCertificates (public_key keys 0) run x.table) (views run) (λ x i. let w = view x i in record { number = w.number; released = w.at.released; table = w.at.is })
+  by_certificates = to_all (λ x. IsByCertificates (pinned_key keys) run x.table) (views run) (λ x i. let w = view x i in record { number = w.number; released = w.at.released; table = w.at.is })
 
   pub have_texts : HaveTexts keys run
   have_texts = to_all (λ x. table.Fits x.table) (views run) (λ x i. (view x i).at.fits)

@@ -1,7 +1,7 @@
 -- Where no signature is forged, what is shown with a valid signature was released.
-use Rattle.std.proofs.Common.{◌≡◌, ℕ, Bool, true, false, ◌==◌, List, [], ◌∷◌, ◌++◌, map, refl, sym, ap, ◌∙◌, subst, inl, inr, if◌then◌else◌}
+use Rattle.std.proofs.Common.{◌≡◌, ℕ, Bool, true, false, ◌==◌, List, [], ◌∷◌, ◌++◌, length, get_or, map, refl, sym, ap, ◌∙◌, subst, inl, inr, if◌then◌else◌, arith}
 use Rattle.std.specs.List.{All, Contains}
-use Rattle.layout.specs.Types.{Bytes, User}
+use Rattle.layout.specs.Types.{Bytes, Key, User}
 use Rattle.lms_sign.specs.Signature.{signature_of, valid}
 use Rattle.lms_sign.proofs.Validity.{length-signature}
 use Rattle.version_order.specs.Structure.{Structure, structure}
@@ -16,10 +16,10 @@ use Rattle.release_runs.proofs.Once.{came}
 use Rattle.release_runs.proofs.Stories.{IsStory, OfCert, OfStructure, Release, cert_of, message, text as release_text}
 use Rattle.client_releases.proofs.Again.{unsigned_of}
 use Rattle.release_runs.proofs.Texts.{no_cert}
-use Rattle.client_runs.specs.Runs.{Event, IsRun, Keys, owner, public_key}
+use Rattle.client_runs.specs.Runs.{Event, IsOwnKey, IsRun, Keys, owner, pinned, public_keys}
 use Rattle.client_runs.specs.Released.{Shown, released, released_by, shown_by}
 use Rattle.client_runs.proofs.Replies.{shown}
-use Rattle.fork_consistency.specs.Premises.{HasReleased, IsGenuine, NoForgery, NoneForgedOf, everybody}
+use Rattle.fork_consistency.specs.Premises.{HasReleased, IsGenuine, NoForgery, NoneForgedOf, PinnedIsKey, everybody}
 use Rattle.client_runs.specs.UsedOnce.{LeavesOnce}
 use Rattle.fork_consistency.proofs.Holds.{structures}
 use Rattle.client_runs.proofs.Lowering.{low_owner}
@@ -40,31 +40,39 @@ released_later e older u text has = go (e.user == u)
     go true = more
     go false = has
 
--- what verifies under the user's key was released by the user's client
+-- the key that every client knows is one of user 0's
+pub pinned_own : (keys : Keys) → PinnedIsKey keys → IsOwnKey keys 0 (pinned keys)
+pinned_own keys fits = go (public_keys keys 0) fits.0.0
+  where
+    go : (own : List Key) → length (get_or own 0 []) ≡ 56 → Contains own (get_or own 0 [])
+    go [] size = absurd (omega (arith, size))
+    go (k ∷ own) size = in_contains k (k ∷ own) (inl refl)
+
+-- what verifies under one of the user's keys was released by the user's client
 abbrev pub IsReleasedText : Keys → List Event → Shown → Type 0
-IsReleasedText keys older t = valid (public_key keys t.user) t.text t.signature ≡ true → HasReleased t.user older t.text
+IsReleasedText keys older t = (key : Key) → IsOwnKey keys t.user key → valid key t.text t.signature ≡ true → HasReleased t.user older t.text
 
 -- so does each text that is shown, at an earlier step
 abbrev pub AllGenuine : Keys → List Event → Type 0
 AllGenuine keys [] = Unit {0}
 AllGenuine keys (e ∷ older) = All (IsReleasedText keys older) (shown_by e.call) × AllGenuine keys older
 
--- no leaf carries two texts, so that what the premise says under this condition holds
-module _ (keys : Keys) (whole : List Event) (once : (u : User) → LeavesOnce u whole) where
+-- no leaf of a key carries two texts, so that what the premise says under this condition holds
+module _ (keys : Keys) (whole : List Event) (once : (u : User) → LeavesOnce keys u whole) where
   each_genuine : (run : List Event) → NoneForgedOf everybody keys whole run → AllGenuine keys run
   each_genuine [] none = tt
   each_genuine (e ∷ older) none =
-      (to_all (IsReleasedText keys older) (shown_by e.call) (λ t j. of_all (λ (x : Shown). everybody x.user → IsGenuine keys whole older x) (shown_by e.call) none.0 t j tt (once t.user) (public_key keys t.user) refl), each_genuine older none.1)
+      (to_all (IsReleasedText keys older) (shown_by e.call) (λ t j. of_all (λ (x : Shown). everybody x.user → IsGenuine keys whole older x) (shown_by e.call) none.0 t j tt (once t.user)), each_genuine older none.1)
 
 pub all_genuine : (keys : Keys) (run : List Event) → IsRun keys run → NoForgery keys run → AllGenuine keys run
 all_genuine keys run is none = each_genuine keys run (λ u. leaves_once keys run u is) run none
 
-pub genuine : (keys : Keys) (run : List Event) → AllGenuine keys run → (t : Shown) → In t (shown run) → valid (public_key keys t.user) t.text t.signature ≡ true → HasReleased t.user run t.text
-genuine keys [] none t i v = absurd i
-genuine keys (e ∷ older) none t i v =
+pub genuine : (keys : Keys) (run : List Event) → AllGenuine keys run → (t : Shown) → In t (shown run) → (key : Key) → IsOwnKey keys t.user key → valid key t.text t.signature ≡ true → HasReleased t.user run t.text
+genuine keys [] none t i key own v = absurd i
+genuine keys (e ∷ older) none t i key own v =
     elim (in-append t (shown_by e.call) (shown older) i) [
-      | inl j ↦ released_later e older t.user t.text (of_all (IsReleasedText keys older) (shown_by e.call) none.0 t j v)
-      | inr j ↦ released_later e older t.user t.text (genuine keys older none.1 t j v)
+      | inl j ↦ released_later e older t.user t.text (of_all (IsReleasedText keys older) (shown_by e.call) none.0 t j key own v)
+      | inr j ↦ released_later e older t.user t.text (genuine keys older none.1 t j key own v)
     ]
 
 -- ---- structures

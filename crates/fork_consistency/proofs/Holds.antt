@@ -4,6 +4,7 @@ use Rattle.layout.specs.Types.{Bytes, Digest}
 use Rattle.leaf_ledger.specs.Ledger.{LeafNumber}
 use Rattle.version_order.specs.Structure.{Structure}
 use Rattle.update_cert.specs.Change.{Change}
+use Rattle.update_cert.specs.Cert.{Cert}
 use Rattle.pending_list.specs.declared.signed.Signed.{Signed}
 use Rattle.wire.specs.declared.kinds.Status.{Status}
 use Rattle.wire.specs.declared.kinds.Status.TheVariants as status
@@ -18,13 +19,13 @@ use Rattle.release_runs.specs.Steps as low
 use Rattle.release_runs.proofs.Holds.{IsAt, where_in_turn}
 use Rattle.release_runs.proofs.Holds as low_holds
 use Rattle.release_runs.proofs.Opening.{IsOf, opened_holds}
-use Rattle.release_runs.proofs.Releasing.{IsTriedCert, IsTriedStructure, declare_fails, declares, sign_fails, signs}
+use Rattle.release_runs.proofs.Releasing.{IsTriedCert, IsTriedStructure, declare_fails, declares, resign_fails, resigns, sign_fails, signs}
 use Rattle.release_runs.proofs.Stories.{OfCert, OfStructure, Release, last_in, phase_in, text_in}
 use Rattle.client_verify.specs.State.{Ready, State, declared, newest_key, next_cert, next_structure, on, over as over_blocks, released, signed_over, signed_text, signing_key}
-use Rattle.client_steps.specs.Steps.{Begins, Call, Client, Closed, Commits, HasBegun, HasCommitted, HasSigned, IsOpened, IsSound, Open, Opens, Owner, Parts, Signs}
+use Rattle.client_steps.specs.Steps.{Begins, Call, Client, Closed, Commits, HasBegun, HasCommitted, HasResigned, HasSigned, IsOpened, IsSound, Open, Opens, Owner, Parts, Resigns, Signs}
 use Rattle.client_runs.specs.Runs.{Event}
 use Rattle.client_runs.specs.Released.{accepted_by, in_hand, released_by, tried_by, view_over, where_signed}
-use Rattle.client_runs.proofs.Lowering.{if_ready, low_begin_failed, low_begun, low_client, low_opened, low_owner, low_parts, low_sign_failed, low_signed, of_declared}
+use Rattle.client_runs.proofs.Lowering.{if_ready, low_begin_failed, low_begun, low_client, low_opened, low_owner, low_parts, low_resign_failed, low_resigned, low_sign_failed, low_signed, of_declared}
 use Rattle.client_runs.proofs.Replies.{AreSound, IsGoodBy, good_later, none_sound, sound_later}
 
 -- the structures of a story
@@ -37,7 +38,7 @@ abbrev pub signed_in : View → Structure
 signed_in x = x.signed
 
 -- one that is Declared has declared
-told_declared : (told now : Phase) → IsPhase told now → now ≡ phase.Declared → told ≡ phase.Declared
+pub told_declared : (told now : Phase) → IsPhase told now → now ≡ phase.Declared → told ≡ phase.Declared
 told_declared told now (inl same) declared = sym same ∙ declared
 told_declared told now (inr other) declared = let two : phase.Declared ≡ phase.Idle = sym declared ∙ other.1 in absurd (cc two)
 
@@ -243,6 +244,54 @@ module _ (o : Owner) where
             tried_cert some (inr (q, one)) =
                 subst (λ (t : Option Release). Tries h.story (event (Begins changes laid (Err error.Device)) (Open new) ∷ older) t view) (sym one)
                 (subst (λ (v : Option View). Tries h.story (event (Begins changes laid (Err error.Device)) (Open new) ∷ older) (Some (OfCert (newest_key s) (next_cert s changes) q)) v) (sym (view_idle b.idle)) tt)
+
+      -- ---- a certificate is signed again
+
+      module _ (n : ℕ) where
+        view_declared : s.phase ≡ phase.Declared → view ≡ None
+        view_declared now = h.own.no_view (λ down. let two : phase.Declared ≡ phase.Failed = sym now ∙ down in cc two)
+
+        pub resigns_ok : (text : Bytes) → HasResigned s n (Ok text) new → HoldsAfter older (Open s) texts signed view (Resigns n (Ok text)) (Open new)
+        resigns_ok text b =
+            let k = resigns (low_owner o) (Unit {0}) h.story h.tried texts (released s) h.low n (released new) text (low_resigned s new n text b) in
+            let is = b.resigned.2 in
+            record {
+              story = OfCert n k.0 k.1 ∷ h.story;
+              tried = None;
+              low = where_in_turn (low_owner o) (Unit {0} × Unit {0}) (Unit {0}) (OfCert n k.0 k.1 ∷ h.story) None (low_client (Open new)) (text ∷ texts) (λ _. (tt, tt)) k.2;
+              tries = none_tries (OfCert n k.0 k.1 ∷ h.story) (event (Resigns n (Ok text)) (Open new) ∷ older) view (view_declared b.declared);
+              own = record {
+                pinned = ap (λ (m : State). m.pinned) is ∙ h.own.pinned;
+                no_view = λ _. view_declared b.declared;
+                replies = none_sound (event (Resigns n (Ok text)) (Open new) ∷ older) new (ap (λ (m : State). m.checked) is) (ap (λ (m : State). m.accepted) is);
+                always = always;
+              };
+              viewed = h.viewed;
+            }
+
+        pub resign_fails_here : HasResigned s n (Err error.Device) new → HoldsAfter older (Open s) texts signed view (Resigns n (Err error.Device)) (Open new)
+        resign_fails_here b =
+            let k = resign_fails (low_owner o) (Unit {0}) h.story h.tried texts (released s) h.low n (released new) error.Device (low_resign_failed s new n b) in
+            let is = b.fails refl in
+            record {
+              story = h.story;
+              tried = k.1;
+              low = where_in_turn (low_owner o) (Unit {0} × Unit {0}) (Unit {0}) h.story k.1 (low_client (Open new)) texts (λ _. (tt, tt)) k.3;
+              tries = tried_again k.0 k.1 k.2;
+              own = record {
+                pinned = ap (λ (m : State). m.pinned) is ∙ h.own.pinned;
+                no_view = λ _. view_declared b.declared;
+                replies = none_sound (event (Resigns n (Err error.Device)) (Open new) ∷ older) new (ap (λ (m : State). m.checked) is) (ap (λ (m : State). m.accepted) is);
+                always = always;
+              };
+              viewed = h.viewed;
+            }
+          where
+            tried_again : (c : Cert) (some : Option Release) → IsTriedCert n c some → Tries h.story (event (Resigns n (Err error.Device)) (Open new) ∷ older) some view
+            tried_again c some (inl none) = subst (λ (t : Option Release). Tries h.story (event (Resigns n (Err error.Device)) (Open new) ∷ older) t view) (sym none) (none_tries h.story (event (Resigns n (Err error.Device)) (Open new) ∷ older) view (view_declared b.declared))
+            tried_again c some (inr (q, one)) =
+                subst (λ (t : Option Release). Tries h.story (event (Resigns n (Err error.Device)) (Open new) ∷ older) t view) (sym one)
+                (subst (λ (v : Option View). Tries h.story (event (Resigns n (Err error.Device)) (Open new) ∷ older) (Some (OfCert n c q)) v) (sym (view_declared b.declared)) tt)
 
       -- ---- sign
 

@@ -103,17 +103,17 @@ unbroken_by t x e =
 
 -- ---- signatures
 
--- what verifies by a table that lists the users' own keys does so by these
-pub verified : (key : User → Key) (t : Table) → ((u : User) (v : Version) (k : Key) → key_at u v t ≡ Some k → k ≡ key u) → (u : User) (v : Version) (text signature : Bytes)
-    → verifies t u v text signature ≡ true → (not (u == 0) || valid (key 0) text signature) ≡ true → valid (key u) text signature ≡ true
-verified key t own u v text signature by_table by_super = go (u == 0) refl by_table by_super
+-- what verifies by a table that lists the users' own keys does so by one of these
+pub verified : (Own : User → Key → Type 0) (super : Key) (t : Table) → ((u : User) (v : Version) (k : Key) → key_at u v t ≡ Some k → Own u k) → Own 0 super → (u : User) (v : Version) (text signature : Bytes)
+    → verifies t u v text signature ≡ true → (not (u == 0) || valid super text signature) ≡ true → (k : Key) × Own u k × (valid k text signature ≡ true)
+verified Own super t own mine u v text signature by_table by_super = go (u == 0) refl by_table by_super
   where
-    listed : (k : Option Key) → key_at u v t ≡ k → option_map_or (λ k. valid k text signature) k false ≡ true → valid (key u) text signature ≡ true
+    listed : (k : Option Key) → key_at u v t ≡ k → option_map_or (λ k. valid k text signature) k false ≡ true → (k : Key) × Own u k × (valid k text signature ≡ true)
     listed None is h = absurd (cc h)
-    listed (Some k) is h = ap (λ j. valid j text signature) (sym (own u v k is)) ∙ h
+    listed (Some k) is h = (k, own u v k is, h)
 
-    go : (b : Bool) → (u == 0) ≡ b → (b || option_map_or (λ k. valid k text signature) (key_at u v t) false) ≡ true → (not b || valid (key 0) text signature) ≡ true → valid (key u) text signature ≡ true
-    go true zero_is h g = ap (λ w. valid (key w) text signature) (eqb-true u 0 zero_is) ∙ g
+    go : (b : Bool) → (u == 0) ≡ b → (b || option_map_or (λ k. valid k text signature) (key_at u v t) false) ≡ true → (not b || valid super text signature) ≡ true → (k : Key) × Own u k × (valid k text signature ≡ true)
+    go true zero_is h g = (super, subst (λ (w : User). Own w super) (sym (eqb-true u 0 zero_is)) mine, g)
     go false other h g = listed (key_at u v t) refl h
 
 pub structure_verified : (t : Table) (x : Lists) → signatures t x ≡ true → (z : Signed Structure) → In z x.structures → structure_is_signed t z ≡ true

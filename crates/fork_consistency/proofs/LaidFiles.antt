@@ -19,7 +19,7 @@ use Rattle.client_verify.specs.Laid.{are_laid, is_file_laid, is_laid}
 use Rattle.client_verify.specs.State.{State, next_cert}
 use Rattle.client_steps.specs.Steps.{Begins, Call, Client, Open}
 use Rattle.client_runs.specs.Released.{hashed, hashed_at, views}
-use Rattle.client_runs.specs.Runs.{Event, IsRun, Keys, client_of, public_key}
+use Rattle.client_runs.specs.Runs.{Event, IsRun, Keys, client_of, pinned as pinned_key}
 use Rattle.agreement.specs.Lines.{line}
 use Rattle.agreement.specs.Runs.{View}
 use Rattle.agreement.proofs.Members.{In, contains_in, in-left, in_contains, of_all, to_all}
@@ -83,7 +83,7 @@ module _ (keys : Keys) (run : List Event) (is : IsRun keys run) (is_key : Pinned
   texts = hashed keys run
 
   into : (t : Bytes) → In t (flat_map hashed_at run) → In t texts
-  into t i = in-left t (flat_map hashed_at run) (first_texts (public_key keys 0)) i
+  into t i = in-left t (flat_map hashed_at run) (first_texts (pinned_key keys)) i
 
   -- texts that are among those of the run, and were laid out by the user
   abbrev OfUser : User → Cert → List Bytes → Type 0

@@ -28,9 +28,9 @@ use Rattle.client_verify.specs.Judged.{AsksOrAccepts, GoesOn, Handed, Judged, Ta
 use Rattle.client_verify.specs.Looked.{Given, Looked}
 use Rattle.agreement.specs.Runs.{View, user_of}
 use Rattle.agreement.proofs.Members.{In, in-right}
-use Rattle.client_steps.specs.Steps.{Asks, Begins, Caches, Call, Client, Closed, Closes, Commits, Crashes, Gives, HasBegun, HasCached, HasGiven, HasHeard, HasLooked, HasSigned, HasTaken, Hears, IsStep, Looks, Open, Opens, Owner, Sees, Signs, Takes}
+use Rattle.client_steps.specs.Steps.{Asks, Begins, Caches, Call, Client, Closed, Closes, Commits, Crashes, Gains, Gives, HasBegun, HasCached, HasGiven, HasHeard, HasLooked, HasResigned, HasSigned, HasTaken, Hears, IsStep, Looks, Open, Opens, Owner, Resigns, Sees, Signs, Takes}
 use Rattle.client_runs.specs.Released.{accepted_by, hashed_at, tried_view, view_over as over, views}
-use Rattle.client_runs.specs.Runs.{Event, IsRun, Keys, client_of, owner, public_key}
+use Rattle.client_runs.specs.Runs.{Event, IsRun, Keys, client_of, owner, pinned as pinned_key}
 use Rattle.fork_consistency.proofs.Among.{agrees_within, are_within}
 use Rattle.fork_consistency.proofs.Views.{over_here}
 use Rattle.fork_consistency.specs.Handles.{told_by_texts}
@@ -131,6 +131,19 @@ module _ (s new : State) where
       go : (a : Result Bytes ClientError) → HasBegun s changes laid a new → Keeps s.view new.view
       go (Ok text) h = same (ap (λ (n : State). n.view) h.declared.2)
       go (Err error.Device) h = same (ap (λ (n : State). n.view) (h.fails refl))
+      go (Err error.Memory) h = of_state s refl (h.err (λ d. cc d))
+      go (Err error.NoLeaf) h = of_state s refl (h.err (λ d. cc d))
+      go (Err error.NoNumber) h = of_state s refl (h.err (λ d. cc d))
+      go (Err error.NoKey) h = of_state s refl (h.err (λ d. cc d))
+      go (Err error.Foreign) h = of_state s refl (h.err (λ d. cc d))
+      go (Err error.Damaged) h = of_state s refl (h.err (λ d. cc d))
+
+  resigns : (n : ℕ) (answer : Result Bytes ClientError) → HasResigned s n answer new → Keeps s.view new.view
+  resigns n answer b = go answer b
+    where
+      go : (a : Result Bytes ClientError) → HasResigned s n a new → Keeps s.view new.view
+      go (Ok text) h = same (ap (λ (m : State). m.view) h.resigned.2)
+      go (Err error.Device) h = same (ap (λ (m : State). m.view) (h.fails refl))
       go (Err error.Memory) h = of_state s refl (h.err (λ d. cc d))
       go (Err error.NoLeaf) h = of_state s refl (h.err (λ d. cc d))
       go (Err error.NoNumber) h = of_state s refl (h.err (λ d. cc d))
@@ -248,11 +261,13 @@ module _ (texts : List Bytes) (apart : NoneCollide texts texts) (key : Key) wher
   step o (Closed p) (Opens (Ok x)) (Open s) tried last is knows has =
       subst (λ (v : Option AcceptedView). IfSome v (λ w. IsSomeAnd (next (accepted_by (Opens (Ok x)) (Closed p) (Open s) tried) last) (IsOf w))) (sym (ap (λ (n : State). n.view) is.state)) tt
   step o (Closed p) (Opens (Err e)) (Closed q) tried last is knows has = tt
+  step o (Closed p) Gains (Closed q) tried last is knows has = tt
   step o (Closed p) Crashes (Closed q) tried last is knows has = tt
   step o (Closed p) call after tried last is knows has = absurd is
   step o (Open s) Closes (Closed p) tried last is knows has = tt
   step o (Open s) Crashes (Closed p) tried last is knows has = tt
   step o (Open s) (Begins changes laid answer) (Open new) tried last is knows has = kept last s new (begins s new changes laid answer is) has
+  step o (Open s) (Resigns n answer) (Open new) tried last is knows has = kept last s new (resigns s new n answer is) has
   step o (Open s) (Hears text answer) (Open new) tried last is knows has = kept last s new (hears s new text answer is) has
   step o (Open s) (Takes block answer) (Open new) tried last is knows has = kept last s new (takes s new block answer is) has
   step o (Open s) (Signs (Ok text)) (Open new) tried last is knows has = signs s new text last is knows
@@ -274,9 +289,9 @@ module _ (texts : List Bytes) (apart : NoneCollide texts texts) (key : Key) wher
 
 -- ---- runs
 
-module _ (keys : Keys) (texts : List Bytes) (apart : NoneCollide texts texts) (first : AreIn texts apart (public_key keys 0) (first_texts (public_key keys 0))) where
+module _ (keys : Keys) (texts : List Bytes) (apart : NoneCollide texts texts) (first : AreIn texts apart (pinned_key keys) (first_texts (pinned_key keys))) where
   abbrev key : Key
-  key = public_key keys 0
+  key = pinned_key keys
 
   -- each open client has the view that it accepted last
   pub has_last_view : (u : User) (run : List Event) → IsRun keys run → ((t : Bytes) → In t (flat_map hashed_at run) → In t texts) → HasLastView texts apart key (last_view u run) (client_of u run)

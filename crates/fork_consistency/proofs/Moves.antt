@@ -17,11 +17,11 @@ use Rattle.release_runs.proofs.Holds as low_holds
 use Rattle.release_runs.proofs.Runs as low_runs
 use Rattle.client_verify.specs.State.{Checked, State, released}
 use Rattle.client_verify.specs.Judged.{Handed}
-use Rattle.client_steps.specs.Steps.{Asks, Begins, Caches, Call, Client, Closed, Closes, Commits, Crashes, Gives, HasHeard, HasTaken, Hears, IsHandedBack, IsLeft, IsRefused, IsSound, IsStep, Looks, Open, Opens, Owner, Parts, Signs, Takes, first}
+use Rattle.client_steps.specs.Steps.{Asks, Begins, Caches, Call, Client, Closed, Closes, Commits, Crashes, Gains, Gives, HasGained, HasHeard, HasTaken, Hears, IsHandedBack, IsLeft, IsRefused, IsSound, IsStep, Looks, Open, Opens, Owner, Parts, Resigns, Signs, Takes, first}
 use Rattle.client_runs.specs.Runs.{Event, IsRun, Keys, client_of, owner}
 use Rattle.client_runs.specs.Released.{accepted_by, released as released_in, released_by, reply_texts, shown_in, stored_texts, tried_by, tried_view}
-use Rattle.fork_consistency.proofs.Holds.{Holds, HoldsAfter, begin_fails, begins, closes, commits, event, later, opens, sign_fails_here, signed_in, signs_ok, stays}
-use Rattle.client_runs.proofs.Lowering.{HasOneLedger, low_client, low_handed_back, low_left, low_owner, low_parts, one_ledger, with_ready}
+use Rattle.fork_consistency.proofs.Holds.{Holds, HoldsAfter, begin_fails, begins, closes, commits, event, later, opens, resign_fails_here, resigns_ok, sign_fails_here, signed_in, signs_ok, stays}
+use Rattle.client_runs.proofs.Lowering.{low_client, low_gained, low_handed_back, low_left, low_owner, low_parts, with_ready}
 use Rattle.client_runs.proofs.Quiet.{gives, hears, looks, takes}
 use Rattle.client_runs.proofs.Replies.{AreSound, StaysSound, IsUnder, Kept, handed_on, judged_on, kept_sound, sound_later}
 
@@ -39,15 +39,11 @@ module _ (o : Owner) where
     -- ---- closed clients
 
     module _ (before : Client) (h : Holds o older before texts signed view) where
-      left : (e : Event) (p : Parts) → HasOneLedger before → IsLeft before p → Holds o (e ∷ older) (Closed p) texts signed view
-      left e p one is =
+      left : (e : Event) (p : Parts) → IsLeft before p → Holds o (e ∷ older) (Closed p) texts signed view
+      left e p is =
           closes o older texts signed view e before p h
           (low_holds.closes (low_owner o) (Unit {0}) (Unit {0}) h.story h.tried texts (λ t. t) (low_client before) (low_parts p) h.low
-          (low_runs.left (low_owner o) h.story h.tried (low_client before) h.low.lies (low_parts p) (low_left before p one is)))
-
-    -- an open one has one ledger
-    has_one : (s : State) → Holds o older (Open s) texts signed view → HasOneLedger (Open s)
-    has_one s h = one_ledger s o.secret h.own.always.0 h.low.own.opened h.low.own.secrets
+          (low_runs.left (low_owner o) h.story h.tried (low_client before) h.low.lies (low_parts p) (low_left before p is)))
 
     refused : (p : Parts) (e : ClientError) (q : Parts) → Holds o older (Closed p) texts signed view → IsRefused o p e q → HoldsAfter o older (Closed p) texts signed view (Opens (Err e)) (Closed q)
     refused p e q h is =
@@ -59,7 +55,14 @@ module _ (o : Owner) where
     handed_back s p h is =
         closes o older texts signed view (event o Closes (Closed p)) (Open s) p h
         (low_holds.closes (low_owner o) (Unit {0}) (Unit {0}) h.story h.tried texts (λ t. t) (low_client (Open s)) (low_parts p) h.low
-        (low_runs.handed_back (low_owner o) h.story h.tried (low_client (Open s)) h.low.lies (low_parts p) (low_handed_back s p (has_one s h) is).ledgers is.journal))
+        (low_runs.handed_back (low_owner o) h.story h.tried (low_client (Open s)) h.low.lies (low_parts p) (low_handed_back s p is).ledgers is.journal))
+
+    gained : (p q : Parts) → Holds o older (Closed p) texts signed view → HasGained o p q → HoldsAfter o older (Closed p) texts signed view Gains (Closed q)
+    gained p q h is =
+        let more = low_gained o p q is in
+        closes o older texts signed view (event o Gains (Closed q)) (Closed p) q h
+        (low_holds.closes (low_owner o) (Unit {0}) (Unit {0}) h.story h.tried texts (λ t. t) (low_client (Closed p)) (low_parts q) h.low
+        (low_runs.gained (low_owner o) h.story h.tried (low_client (Closed p)) h.low.lies (low_parts q) more.ledgers more.journal))
 
     -- ---- calls that release nothing
 
@@ -102,10 +105,11 @@ module _ (o : Owner) where
     step : (before : Client) (call : Call) (after : Client) → Holds o older before texts signed view → IsStep o before call after → IsSound after → HoldsAfter o older before texts signed view call after
     step (Closed p) (Opens (Ok x)) (Open s) h is sound = opens o older texts signed view p s x h is sound
     step (Closed p) (Opens (Err e)) (Closed q) h is sound = refused older texts signed view p e q h is
-    step (Closed p) Crashes (Closed q) h is sound = left older texts signed view (Closed p) h (event o Crashes (Closed q)) q tt is
+    step (Closed p) Crashes (Closed q) h is sound = left older texts signed view (Closed p) h (event o Crashes (Closed q)) q is
+    step (Closed p) Gains (Closed q) h is sound = gained older texts signed view p q h is
     step (Closed p) call after h is sound = absurd is
     step (Open s) Closes (Closed p) h is sound = handed_back older texts signed view s p h is
-    step (Open s) Crashes (Closed p) h is sound = left older texts signed view (Open s) h (event o Crashes (Closed p)) p (has_one older texts signed view s h) is
+    step (Open s) Crashes (Closed p) h is sound = left older texts signed view (Open s) h (event o Crashes (Closed p)) p is
     step (Open s) (Begins changes laid (Ok text)) (Open new) h is sound = begins o older texts signed view s h new sound changes laid text is
     step (Open s) (Begins changes laid (Err error.Device)) (Open new) h is sound = begin_fails o older texts signed view s h new sound changes laid is
     step (Open s) (Begins changes laid (Err error.Memory)) (Open new) h is sound = same_as older texts signed view s h new sound (event o (Begins changes laid (Err error.Memory)) (Open new)) (is.err (λ d. cc d))
@@ -114,6 +118,14 @@ module _ (o : Owner) where
     step (Open s) (Begins changes laid (Err error.NoKey)) (Open new) h is sound = same_as older texts signed view s h new sound (event o (Begins changes laid (Err error.NoKey)) (Open new)) (is.err (λ d. cc d))
     step (Open s) (Begins changes laid (Err error.Foreign)) (Open new) h is sound = same_as older texts signed view s h new sound (event o (Begins changes laid (Err error.Foreign)) (Open new)) (is.err (λ d. cc d))
     step (Open s) (Begins changes laid (Err error.Damaged)) (Open new) h is sound = same_as older texts signed view s h new sound (event o (Begins changes laid (Err error.Damaged)) (Open new)) (is.err (λ d. cc d))
+    step (Open s) (Resigns n (Ok text)) (Open new) h is sound = resigns_ok o older texts signed view s h new sound n text is
+    step (Open s) (Resigns n (Err error.Device)) (Open new) h is sound = resign_fails_here o older texts signed view s h new sound n is
+    step (Open s) (Resigns n (Err error.Memory)) (Open new) h is sound = same_as older texts signed view s h new sound (event o (Resigns n (Err error.Memory)) (Open new)) (is.err (λ d. cc d))
+    step (Open s) (Resigns n (Err error.NoLeaf)) (Open new) h is sound = same_as older texts signed view s h new sound (event o (Resigns n (Err error.NoLeaf)) (Open new)) (is.err (λ d. cc d))
+    step (Open s) (Resigns n (Err error.NoNumber)) (Open new) h is sound = same_as older texts signed view s h new sound (event o (Resigns n (Err error.NoNumber)) (Open new)) (is.err (λ d. cc d))
+    step (Open s) (Resigns n (Err error.NoKey)) (Open new) h is sound = same_as older texts signed view s h new sound (event o (Resigns n (Err error.NoKey)) (Open new)) (is.err (λ d. cc d))
+    step (Open s) (Resigns n (Err error.Foreign)) (Open new) h is sound = same_as older texts signed view s h new sound (event o (Resigns n (Err error.Foreign)) (Open new)) (is.err (λ d. cc d))
+    step (Open s) (Resigns n (Err error.Damaged)) (Open new) h is sound = same_as older texts signed view s h new sound (event o (Resigns n (Err error.Damaged)) (Open new)) (is.err (λ d. cc d))
     step (Open s) (Hears text answer) (Open new) h is sound = hears_it older texts signed view s h new sound text answer is
     step (Open s) (Takes block answer) (Open new) h is sound = takes_it older texts signed view s h new sound block answer is
     step (Open s) (Signs (Ok text)) (Open new) h is sound =

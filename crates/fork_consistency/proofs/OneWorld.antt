@@ -29,7 +29,7 @@ use Rattle.agreement.proofs.Formed.{cert_fits}
 use Rattle.agreement.proofs.Runs.{accepted_in}
 use Rattle.fork_consistency.specs.Premises.{HasReleased, NoCollision, PinnedIsKey, Premises}
 use Rattle.client_runs.specs.Released.{hashed, hashed_at, released, views}
-use Rattle.client_runs.specs.Runs.{Event, IsRun, Keys, public_key}
+use Rattle.client_runs.specs.Runs.{Event, IsRun, Keys, pinned as pinned_key}
 use Rattle.fork_consistency.proofs.Agreed.{all_released, are_accepted}
 use Rattle.fork_consistency.specs.ByCertificates.{certificate, certificates, certificates_up_to}
 use Rattle.fork_consistency.specs.Handles.{told_by_texts}
@@ -87,9 +87,9 @@ module _ (texts : List Bytes) (apart : NoneCollide texts texts) (a b : Reading) 
       ap (λ (changes : List (Change Content)). world_from a (after (actor_in w c) changes w) cs) (same_changes c (each c (inl refl)))
       ∙ same_world cs (after (actor_in w c) (read_changes b c.changes) w) (λ d i. each d (inr i))
 
-module _ (keys : Keys) (run : List Event) (is : IsRun keys run) (apart : NoCollision keys run) (pinned : key_form.Fits (public_key keys 0)) where
+module _ (keys : Keys) (run : List Event) (is : IsRun keys run) (apart : NoCollision keys run) (pinned : key_form.Fits (pinned_key keys)) where
   abbrev key : Key
-  key = public_key keys 0
+  key = pinned_key keys
 
   abbrev texts : List Bytes
   texts = hashed keys run
@@ -132,7 +132,7 @@ module _ (keys : Keys) (run : List Event) (is : IsRun keys run) (is_key : Pinned
   begun x i c j fits =
       let has = of_all (λ (d : Cert). HasReleased d.user run (cert.spell d)) (line (views run) x) (of_all (λ (y : View). All (λ (d : Cert). HasReleased d.user run (cert.spell d)) (line (views run) y)) (views run) (all_released keys run is is_key premises) x i) c j in
       let t = text_of keys run is c.user c fits refl has in
-      subst (IsBegun (AmongThem (hashed keys run))) t.value (each_begun (hashed keys run) keys c.user run is (λ y k. in-left y (flat_map hashed_at run) (first_texts (public_key keys 0)) k) t.text t.one t.there t.read)
+      subst (IsBegun (AmongThem (hashed keys run))) t.value (each_begun (hashed keys run) keys c.user run is (λ y k. in-left y (flat_map hashed_at run) (first_texts (pinned_key keys)) k) t.text t.one t.there t.read)
 
   abbrev vs : List View
   vs = views run
@@ -146,5 +146,5 @@ module _ (keys : Keys) (run : List Event) (is : IsRun keys run) (is_key : Pinned
 
   pub one_world : OneWorld keys run
   one_world a b of_a of_b =
-      to_all (λ x. (p : Principal) (n : INumber) → p < 96 → world a (public_key keys 0) (line vs x) p n ≡ world b (public_key keys 0) (line vs x) p n) vs
+      to_all (λ x. (p : Principal) (n : INumber) → p < 96 → world a (pinned_key keys) (line vs x) p n ≡ world b (pinned_key keys) (line vs x) p n) vs
       (λ x i p n low. one_of keys run is premises.no_collision is_key (line vs x) (λ c j. begun x i c j (line_fits x c j)) a b of_a of_b p n)

@@ -41,8 +41,8 @@ use Rattle.client_verify.specs.Looked.{Given, Looked}
 use Rattle.agreement.specs.Runs.{View, user_of}
 use Rattle.agreement.specs.Worlds.{NamesTable}
 use Rattle.agreement.proofs.Members.{In, flat_map-in, in-append, in-left, in-right}
-use Rattle.client_steps.specs.Steps.{Asks, Begins, Caches, Call, Client, Closed, Closes, Commits, Crashes, Gives, HasBegun, HasCached, HasGiven, HasHeard, HasLooked, HasSigned, HasTaken, Hears, IsStep, Looks, Open, Opens, Owner, Sees, Signs, Takes}
-use Rattle.client_runs.specs.Runs.{Event, IsRun, Keys, client_of, owner, public_key}
+use Rattle.client_steps.specs.Steps.{Asks, Begins, Caches, Call, Client, Closed, Closes, Commits, Crashes, Gains, Gives, HasBegun, HasCached, HasGiven, HasHeard, HasLooked, HasResigned, HasSigned, HasTaken, Hears, IsStep, Looks, Open, Opens, Owner, Resigns, Sees, Signs, Takes}
+use Rattle.client_runs.specs.Runs.{Event, IsRun, Keys, client_of, owner, pinned as pinned_key}
 use Rattle.client_runs.specs.Released.{accepted_by, hashed_at, in_hand, released, stored_texts, tried_by, tried_view, unless_memory, views, where_signed, view_over as over}
 use Rattle.fork_consistency.proofs.BlocksOf.{are_hashed, blocks_at, blocks_by}
 use Rattle.fork_consistency.proofs.Among.{AreAmong, agrees_within, among_after, among_all_kept, among_kept, among_laid, among_none, among_part, among_same, are_within}
@@ -265,6 +265,19 @@ module _ (texts : List Bytes) (apart : NoneCollide texts texts) (key : Key) wher
         go (Err error.Foreign) all h = same (h.err (λ d. cc d))
         go (Err error.Damaged) all h = same (h.err (λ d. cc d))
 
+    resigns : (n : ℕ) (answer : Result Bytes ClientError) → HasResigned s n answer new → Knows new
+    resigns n answer b = go answer b
+      where
+        go : (a : Result Bytes ClientError) → HasResigned s n a new → Knows new
+        go (Ok text) h = subst (λ (m : State). Knows m) (sym h.resigned.2) (record { pinned = k.pinned; among = k.among; checked = tt; accepted = tt })
+        go (Err error.Device) h = subst (λ (m : State). Knows m) (sym (h.fails refl)) (record { pinned = k.pinned; among = k.among; checked = tt; accepted = tt })
+        go (Err error.Memory) h = same (h.err (λ d. cc d))
+        go (Err error.NoLeaf) h = same (h.err (λ d. cc d))
+        go (Err error.NoNumber) h = same (h.err (λ d. cc d))
+        go (Err error.NoKey) h = same (h.err (λ d. cc d))
+        go (Err error.Foreign) h = same (h.err (λ d. cc d))
+        go (Err error.Damaged) h = same (h.err (λ d. cc d))
+
     hears : (text : Bytes) (answer : Result Asks ClientError) → AreIn (blocks_by (Hears text answer)) → HasHeard s text answer new → Knows new
     hears text (Ok step) inside h = judged s text step new k inside h.judged h.held
     hears text (Err e) inside h = same h.err
@@ -355,11 +368,13 @@ module _ (texts : List Bytes) (apart : NoneCollide texts texts) (key : Key) wher
   step o own first (Closed p) (Opens (Ok x)) (Open s) inside is k =
       opens o s own first (ap (λ (n : State). n.pinned) is.state) (ap (λ (n : State). n.blocks) is.state) (ap (λ (n : State). n.checked) is.state) (ap (λ (n : State). n.accepted) is.state)
   step o own first (Closed p) (Opens (Err e)) (Closed q) inside is k = tt
+  step o own first (Closed p) Gains (Closed q) inside is k = tt
   step o own first (Closed p) Crashes (Closed q) inside is k = tt
   step o own first (Closed p) call after inside is k = absurd is
   step o own first (Open s) Closes (Closed p) inside is k = tt
   step o own first (Open s) Crashes (Closed p) inside is k = tt
   step o own first (Open s) (Begins changes laid answer) (Open new) inside is k = begins s new k changes laid answer inside is
+  step o own first (Open s) (Resigns n answer) (Open new) inside is k = resigns s new k n answer is
   step o own first (Open s) (Hears text answer) (Open new) inside is k = hears s new k text answer inside is
   step o own first (Open s) (Takes block answer) (Open new) inside is k = takes s new k block answer inside is
   step o own first (Open s) (Signs answer) (Open new) inside is k = signs s new k answer is
@@ -446,9 +461,9 @@ module _ (texts : List Bytes) (apart : NoneCollide texts texts) (key : Key) (key
 
 -- ---- runs
 
-module _ (keys : Keys) (texts : List Bytes) (apart : NoneCollide texts texts) (first : AreIn texts apart (public_key keys 0) (first_texts (public_key keys 0))) where
+module _ (keys : Keys) (texts : List Bytes) (apart : NoneCollide texts texts) (first : AreIn texts apart (pinned_key keys) (first_texts (pinned_key keys))) where
   abbrev key : Key
-  key = public_key keys 0
+  key = pinned_key keys
 
   abbrev AreHashed : List Event → Type 0
   AreHashed run = (t : Bytes) → In t (flat_map hashed_at run) → In t texts

@@ -34,9 +34,9 @@ use Rattle.agreement.proofs.Formed.{cert_fits}
 use Rattle.agreement.proofs.Members.{In, in-append, in-filter, in-left, in-map, in-right, map-in, of_all, to_all}
 use Rattle.fork_consistency.specs.Premises.{HasReleased, IsGenuine, NoneForgedOf, PinnedIsKey}
 use Rattle.client_runs.specs.Released.{Shown, accepted_by, hashed, hashed_at, shown_by, shown_cert, shown_structure, tried_view, views}
-use Rattle.client_runs.specs.Runs.{Event, IsRun, Keys, client_of, owner, public_key}
+use Rattle.client_runs.specs.Runs.{Event, IsOwnKey, IsRun, Keys, client_of, owner, pinned as pinned_key}
 use Rattle.client_runs.specs.UsedOnce.{LeavesOnce}
-use Rattle.fork_consistency.proofs.Genuine.{IsReleasedText, released_later, released_structure}
+use Rattle.fork_consistency.proofs.Genuine.{IsReleasedText, released_later, released_structure, pinned_own}
 use Rattle.fork_consistency.proofs.Holds.{IsTriedOver, known_in, signed_in}
 use Rattle.fork_consistency.proofs.Judging.{IsUnbroken, IsUnbrokenBy, cert_by_super, cert_verified, structure_by_super, structure_fits, structure_verified, unbroken, unbroken_by}
 use Rattle.fork_consistency.proofs.Moves.{holds_at}
@@ -75,25 +75,25 @@ abbrev UserGenuine : User → Keys → List Event → Type 0
 UserGenuine u keys [] = Unit {0}
 UserGenuine u keys (e ∷ older) = All (λ t. t.user ≡ u → IsReleasedText keys older t) (shown_by e.call) × UserGenuine u keys older
 
-genuine : (u : User) (keys : Keys) (run : List Event) → UserGenuine u keys run → (t : Shown) → In t (shown run) → t.user ≡ u → valid (public_key keys t.user) t.text t.signature ≡ true → HasReleased t.user run t.text
-genuine u keys [] none t i same v = absurd i
-genuine u keys (e ∷ older) none t i same v =
+genuine : (u : User) (keys : Keys) (run : List Event) → UserGenuine u keys run → (t : Shown) → In t (shown run) → t.user ≡ u → (key : Key) → IsOwnKey keys t.user key → valid key t.text t.signature ≡ true → HasReleased t.user run t.text
+genuine u keys [] none t i same key own v = absurd i
+genuine u keys (e ∷ older) none t i same key own v =
     elim (in-append t (shown_by e.call) (shown older) i) [
-      | inl j ↦ released_later e older t.user t.text (of_all (λ (x : Shown). x.user ≡ u → IsReleasedText keys older x) (shown_by e.call) none.0 t j same v)
-      | inr j ↦ released_later e older t.user t.text (genuine u keys older none.1 t j same v)
+      | inl j ↦ released_later e older t.user t.text (of_all (λ (x : Shown). x.user ≡ u → IsReleasedText keys older x) (shown_by e.call) none.0 t j same key own v)
+      | inr j ↦ released_later e older t.user t.text (genuine u keys older none.1 t j same key own v)
     ]
 
--- what verifies by a table that lists the user's own key does so by that
-verified_one : (own : Key) (super : Key) (t : Table) (u : User) (v : Version) (text signature : Bytes) → ((v : Version) (k : Key) → key_at u v t ≡ Some k → k ≡ own) → (u ≡ 0 → super ≡ own)
-    → verifies t u v text signature ≡ true → (not (u == 0) || valid super text signature) ≡ true → valid own text signature ≡ true
-verified_one own super t u v text signature listed pinned by_table by_super = go (u == 0) refl by_table by_super
+-- what verifies by a table that lists the user's own keys does so by one of these
+verified_one : (Own : Key → Type 0) (super : Key) (t : Table) (u : User) (v : Version) (text signature : Bytes) → ((v : Version) (k : Key) → key_at u v t ≡ Some k → Own k) → (u ≡ 0 → Own super)
+    → verifies t u v text signature ≡ true → (not (u == 0) || valid super text signature) ≡ true → (k : Key) × Own k × (valid k text signature ≡ true)
+verified_one Own super t u v text signature listed pinned by_table by_super = go (u == 0) refl by_table by_super
   where
-    of_table : (k : Option Key) → key_at u v t ≡ k → option_map_or (λ k. valid k text signature) k false ≡ true → valid own text signature ≡ true
+    of_table : (k : Option Key) → key_at u v t ≡ k → option_map_or (λ k. valid k text signature) k false ≡ true → (k : Key) × Own k × (valid k text signature ≡ true)
     of_table None at h = absurd (cc h)
-    of_table (Some k) at h = ap (λ j. valid j text signature) (sym (listed v k at)) ∙ h
+    of_table (Some k) at h = (k, listed v k at, h)
 
-    go : (b : Bool) → (u == 0) ≡ b → (b || option_map_or (λ k. valid k text signature) (key_at u v t) false) ≡ true → (not b || valid super text signature) ≡ true → valid own text signature ≡ true
-    go true zero_is h g = ap (λ j. valid j text signature) (sym (pinned (eqb-true u 0 zero_is))) ∙ g
+    go : (b : Bool) → (u == 0) ≡ b → (b || option_map_or (λ k. valid k text signature) (key_at u v t) false) ≡ true → (not b || valid super text signature) ≡ true → (k : Key) × Own k × (valid k text signature ≡ true)
+    go true zero_is h g = (super, pinned (eqb-true u 0 zero_is), g)
     go false other h g = of_table (key_at u v t) refl h
 
 user_comes : (v : tree_spec.View) (u : User) (i : PendingItem) → u < 64 → comes_after v u i ≡ true → i.cert.user ≡ u
@@ -106,10 +106,10 @@ user_comes v u i low is = go (nat_lt u 64) (lt-ltb u 64 low) (raises v.table u i
 
 -- ---- parts
 
-module _ (keys : Keys) (whole : List Event) (is_whole : IsRun keys whole) (pinned : key_form.Fits (public_key keys 0)) (u : User) (low : u < 64)
-    (texts : List Bytes) (apart : NoneCollide texts texts) (first : (t : Bytes) → In t (first_texts (public_key keys 0)) → In t texts) where
+module _ (keys : Keys) (whole : List Event) (is_whole : IsRun keys whole) (pinned : key_form.Fits (pinned_key keys)) (u : User) (low : u < 64)
+    (texts : List Bytes) (apart : NoneCollide texts texts) (first : (t : Bytes) → In t (first_texts (pinned_key keys)) → In t texts) where
   abbrev key : Key
-  key = public_key keys 0
+  key = pinned_key keys
 
   abbrev certs : ℕ → List Cert
   certs n = certificates_up_to n u whole
@@ -280,9 +280,13 @@ module _ (keys : Keys) (whole : List Event) (is_whole : IsRun keys whole) (pinne
     pub handle : x.signed.plan.user ≡ u → IsHandleAt x.signed.plan.number x.signed.handle
 
   module _ (older : List Event) (is : IsRun keys older) (none : UserGenuine u keys older) (within : (text : Bytes) → HasReleased u older text → HasReleased u whole text) (before : (y : View) → In y (views older) → IsView y) (w : User) (x : View)
-      (over : IsTriedOver (owner keys w) (holds_at keys w older is).story older x) (known : IsKnown texts apart key x) (own : (v : Version) (k : Key) → key_at u v x.table ≡ Some k → k ≡ public_key keys u) where
+      (over : IsTriedOver (owner keys w) (holds_at keys w older is).story older x) (known : IsKnown texts apart key x) (own : (v : Version) (k : Key) → key_at u v x.table ≡ Some k → IsOwnKey keys u k) where
     abbrev r : Reply
     r = of_lists x.lists
+
+    -- the key that every client knows is the user's own, where the user is 0
+    pinned_own_of : u ≡ 0 → IsOwnKey keys u key
+    pinned_own_of zero = subst (λ (y : User). IsOwnKey keys y key) (sym zero) (pinned_own keys pinned)
 
     rules : IsUnbroken (known_in (owner keys w) (holds_at keys w older is).story) r
     rules = unbroken (known_in (owner keys w) (holds_at keys w older is).story) r over.good.judged.unbroken
@@ -298,8 +302,8 @@ module _ (keys : Keys) (whole : List Event) (is_whole : IsRun keys whole) (pinne
         (in-left (shown_structure z) (map shown_structure x.lists.structures) (map shown_cert (items x.lists)) (map-in shown_structure x.lists.structures z j)) in
         let by_table = subst (λ (y : User). verifies x.table y (version_of 0 z.value.plan.vector) text z.signature ≡ true) same (structure_verified x.table x.lists by.structures z j) in
         let by_super = subst (λ (y : User). (not (y == 0) || valid key text z.signature) ≡ true) same (structure_by_super key r rules.by_super z j) in
-        let signature = verified_one (public_key keys u) key x.table u (version_of 0 z.value.plan.vector) text z.signature own (λ zero. ap (public_key keys) (sym zero)) by_table by_super in
-        let has = genuine u keys older none (shown_structure z) was same (ap (λ (y : User). valid (public_key keys y) text z.signature) same ∙ signature) in
+        let signature = verified_one (IsOwnKey keys u) key x.table u (version_of 0 z.value.plan.vector) text z.signature own pinned_own_of by_table by_super in
+        let has = genuine u keys older none (shown_structure z) was same signature.0 (subst (λ (y : User). IsOwnKey keys y signature.0) (sym same) signature.1) signature.2 in
         let k = in_views keys z.value.plan.user older z.value (released_structure keys older is z.value.plan.user z.value (structure_fits r over.good.judged.fits z j) has) in
         let (y, m, equal) = in-map signed_in (views older) z.value k in
         subst (λ (s : Structure). IsHandleAt s.plan.number s.handle) (sym equal) ((before y m).handle (ap (λ (s : Structure). s.plan.user) (sym equal) ∙ same))
@@ -311,8 +315,8 @@ module _ (keys : Keys) (whole : List Event) (is_whole : IsRun keys whole) (pinne
         over.good.judged.was_shown (shown_cert i) (in-right (shown_cert i) (map shown_structure x.lists.structures) (map shown_cert (items x.lists)) (map-in shown_cert (items x.lists) i j)) in
         let by_table = subst (λ (y : User). verifies x.table y (version_of 0 i.plan.vector) text i.signature ≡ true) same (cert_verified x.table x.lists by.certs i j) in
         let by_super = subst (λ (y : User). (not (y == 0) || valid key text i.signature) ≡ true) same (cert_by_super key r rules.by_super i j) in
-        let signature = verified_one (public_key keys u) key x.table u (version_of 0 i.plan.vector) text i.signature own (λ zero. ap (public_key keys) (sym zero)) by_table by_super in
-        let has = genuine u keys older none (shown_cert i) was same (ap (λ (y : User). valid (public_key keys y) text i.signature) same ∙ signature) in
+        let signature = verified_one (IsOwnKey keys u) key x.table u (version_of 0 i.plan.vector) text i.signature own pinned_own_of by_table by_super in
+        let has = genuine u keys older none (shown_cert i) was same signature.0 (subst (λ (y : User). IsOwnKey keys y signature.0) (sym same) signature.1) signature.2 in
         within text (subst (λ (y : User). HasReleased y older text) same has)
 
     item_is : (i : PendingItem) → In i (items x.lists) → IsItem x.lists i
@@ -339,7 +343,7 @@ module _ (keys : Keys) (whole : List Event) (is_whole : IsRun keys whole) (pinne
             (signed_at x.lists x.table item_is (ordered r rules.in_order).once (part_at x.lists shown_at) x.signed.handle known.records known.lost known.made of)
 
   pub all_views : (run : List Event) → IsRun keys run → UserGenuine u keys run → ((text : Bytes) → HasReleased u run text → HasReleased u whole text) → ((t : Bytes) → In t (flat_map hashed_at run) → In t texts)
-      → ((x : View) → In x (views run) → (v : Version) (k : Key) → key_at u v x.table ≡ Some k → k ≡ public_key keys u) → (x : View) → In x (views run) → IsView x
+      → ((x : View) → In x (views run) → (v : Version) (k : Key) → key_at u v x.table ≡ Some k → IsOwnKey keys u k) → (x : View) → In x (views run) → IsView x
   all_views [] is none within inside own x i = absurd i
   all_views (e ∷ older) is none within inside own x i =
       let later = λ (t : Bytes) (j : In t (flat_map hashed_at older)). inside t (in-right t (hashed_at e) (flat_map hashed_at older) j) in
@@ -353,19 +357,19 @@ module _ (keys : Keys) (whole : List Event) (is_whole : IsRun keys whole) (pinne
 
 -- ---- the law
 
-user_genuine : (stolen : User → Bool) (u : User) → stolen u ≡ false → (keys : Keys) (whole : List Event) → ((w : User) → LeavesOnce w whole) → (run : List Event) → NoneForgedOf (IsOutside stolen) keys whole run → UserGenuine u keys run
+user_genuine : (stolen : User → Bool) (u : User) → stolen u ≡ false → (keys : Keys) (whole : List Event) → ((w : User) → LeavesOnce keys w whole) → (run : List Event) → NoneForgedOf (IsOutside stolen) keys whole run → UserGenuine u keys run
 user_genuine stolen u out keys whole once [] none = tt
 user_genuine stolen u out keys whole once (e ∷ older) none =
-    (All-weaker (λ (t : Shown). stolen t.user ≡ false → IsGenuine keys whole older t) (λ (t : Shown). t.user ≡ u → IsReleasedText keys older t) (λ t g same. g (ap stolen same ∙ out) (once t.user) (public_key keys t.user) refl) (shown_by e.call) none.0, user_genuine stolen u out keys whole once older none.1)
+    (All-weaker (λ (t : Shown). stolen t.user ≡ false → IsGenuine keys whole older t) (λ (t : Shown). t.user ≡ u → IsReleasedText keys older t) (λ t g same. g (ap stolen same ∙ out) (once t.user)) (shown_by e.call) none.0, user_genuine stolen u out keys whole once older none.1)
 
 pub own_parts : (stolen : User → Bool) (keys : Keys) (run : List Event) → IsRun keys run → PinnedIsKey keys → StolenPremises stolen keys run → OwnPartsStand stolen keys run
 own_parts stolen keys run is is_key others =
     to_all (λ x. (u : User) → u < 64 → stolen u ≡ false → IsOwnPart keys run u x) (views run)
     (λ x i u low out. (
-    let first = λ (t : Bytes) (j : In t (first_texts (public_key keys 0))). in-right t (flat_map hashed_at run) (first_texts (public_key keys 0)) j in
+    let first = λ (t : Bytes) (j : In t (first_texts (pinned_key keys))). in-right t (flat_map hashed_at run) (first_texts (pinned_key keys)) j in
     let v =
     all_views keys run is is_key u low (hashed keys run) others.1.no_collision first run is (user_genuine stolen u out keys run (λ w. leaves_once keys run w is) run others.1.no_forgery) (λ text has. has)
-    (λ t j. in-left t (flat_map hashed_at run) (first_texts (public_key keys 0)) j) (λ y j v k at. own_key_at (IsOutside stolen) keys run is (super_of stolen keys run is_key others) others.1.added y j u v k out at) x i in
+    (λ t j. in-left t (flat_map hashed_at run) (first_texts (pinned_key keys)) j) (λ y j v k at. own_key_at (IsOutside stolen) keys run is (super_of stolen keys run is_key others) others.1.added y j u v k out at) x i in
     record { number = v.number; released = v.released; part = v.part }))
 
 pub own_keys_stand : (stolen : User → Bool) (keys : Keys) (run : List Event) → IsRun keys run → PinnedIsKey keys → StolenPremises stolen keys run → ListOwnKeysOf (IsOutside stolen) keys run

@@ -11,7 +11,7 @@ use Rattle.client_releases.specs.Told.{cert_in}
 use Rattle.client_tree.specs.Genesis.{first_texts}
 use Rattle.agreement.proofs.Members.{In, contains_in, in-append, in-left, in-right, in_contains, of_all, to_all}
 use Rattle.client_runs.specs.Released.{Shown, hashed, hashed_at, released, released_by, shown_by}
-use Rattle.client_runs.specs.Runs.{Event, IsRun, Keys, public_key}
+use Rattle.client_runs.specs.Runs.{Event, IsRun, Keys, pinned as pinned_key}
 use Rattle.client_runs.specs.UsedOnce.{LeavesOnce}
 use Rattle.client_runs.proofs.Once.{leaves_once}
 use Rattle.fork_consistency.specs.ForkConsistent.{HasNoUser}
@@ -30,8 +30,8 @@ module _ (keys : Keys) where
   forged_before some whole [] older none = none
   forged_before some whole (e ∷ later) older none = forged_before some whole later older none.1
 
-  -- no leaf carries two texts in the whole run, so that what isn't forged there isn't in a part
-  forged_in : (some : User → Type 0) (whole part : List Event) → ((u : User) → LeavesOnce u whole) → (run : List Event) → NoneForgedOf some keys whole run → NoneForgedOf some keys part run
+  -- no leaf of a key carries two texts in the whole run, so that what isn't forged there isn't in a part
+  forged_in : (some : User → Type 0) (whole part : List Event) → ((u : User) → LeavesOnce keys u whole) → (run : List Event) → NoneForgedOf some keys whole run → NoneForgedOf some keys part run
   forged_in some whole part once [] none = tt
   forged_in some whole part once (e ∷ older) none =
       (All-weaker (λ (t : Shown). some t.user → IsGenuine keys whole older t) (λ (t : Shown). some t.user → IsGenuine keys part older t) (λ t g one here. g one (once t.user)) (shown_by e.call) none.0, forged_in some whole part once older none.1)
@@ -46,7 +46,7 @@ module _ (keys : Keys) where
 
   hashed_before : (later older : List Event) (t : Bytes) → Contains (hashed keys older) t → Contains (hashed keys (later ++ older)) t
   hashed_before later older t has =
-      let first = first_texts (public_key keys 0) in
+      let first = first_texts (pinned_key keys) in
       in_contains t (hashed keys (later ++ older))
       (elim (in-append t (flat_map hashed_at older) first (contains_in t (hashed keys older) has)) [
         | inl i ↦ in-left t (flat_map hashed_at (later ++ older)) first (hashed_in later older t i)

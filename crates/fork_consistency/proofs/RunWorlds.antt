@@ -18,7 +18,7 @@ use Rattle.agreement.proofs.Members.{In, in-left, in-right, in_contains, to_all}
 use Rattle.agreement.proofs.Worlds.{all_listed, are_worlds, guarded as any_guarded, judge_as_world, lose_void}
 use Rattle.fork_consistency.specs.Premises.{PinnedIsKey, Premises}
 use Rattle.client_runs.specs.Released.{hashed, hashed_at, views}
-use Rattle.client_runs.specs.Runs.{Event, IsRun, Keys, public_key}
+use Rattle.client_runs.specs.Runs.{Event, IsRun, Keys, pinned as pinned_key}
 use Rattle.fork_consistency.proofs.Agreed.{apart, are_accepted}
 use Rattle.fork_consistency.specs.Handles.{AllAreWhole, FirstAreWhole, NamesWhole, told_by_texts}
 use Rattle.fork_consistency.specs.Worlds.{HasUsers, AreWorldsBy, AreWorldsIn, CanBeRead, IsReadingOf, IsUsersOf, LosesVoid, IsWorldsTable, TreeIsWorld}
@@ -35,7 +35,7 @@ can_read keys run = some_reading (told_by_texts (hashed keys run))
 
 module _ (keys : Keys) (run : List Event) (is : IsRun keys run) (is_key : PinnedIsKey keys) (premises : Premises keys run) where
   abbrev key : Key
-  key = public_key keys 0
+  key = pinned_key keys
 
   abbrev texts : List Bytes
   texts = hashed keys run

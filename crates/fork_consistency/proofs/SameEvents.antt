@@ -81,8 +81,11 @@ module _ {A : Type 0} (o : Owner) where
       opened (Open s) (Closed q) told is = absurd is
   releases_told act.Open (answer.Refused e) before after call at = this_call act.Open (answer.Refused e) before after call _ at (λ told is. refl)
   releases_told act.Close answer.Closed before after call at = this_call act.Close answer.Closed before after call _ at (λ told is. refl)
+  releases_told act.Gain answer.Gained before after call at = this_call act.Gain answer.Gained before after call _ at (λ told is. refl)
   releases_told (act.Begin changes laid) (answer.Begun (Ok r)) before after call at = this_call (act.Begin changes laid) (answer.Begun (Ok r)) before after call _ at (λ told is. refl)
   releases_told (act.Begin changes laid) (answer.Begun (Err e)) before after call at = this_call (act.Begin changes laid) (answer.Begun (Err e)) before after call _ at (λ told is. refl)
+  releases_told (act.Resign n) (answer.Begun (Ok r)) before after call at = this_call (act.Resign n) (answer.Begun (Ok r)) before after call _ at (λ told is. refl)
+  releases_told (act.Resign n) (answer.Begun (Err e)) before after call at = this_call (act.Resign n) (answer.Begun (Err e)) before after call _ at (λ told is. refl)
   releases_told (act.Reply text) (answer.Asks r) before after call at = this_call (act.Reply text) (answer.Asks r) before after call _ at (λ told is. refl)
   releases_told (act.Block block) (answer.Asks r) before after call at = this_call (act.Block block) (answer.Asks r) before after call _ at (λ told is. refl)
   releases_told act.Sign (answer.Signed (Ok x)) before after call at = this_call act.Sign (answer.Signed (Ok x)) before after call _ at (λ told is. refl)
@@ -93,7 +96,7 @@ module _ {A : Type 0} (o : Owner) where
   releases_told (act.Free p first last) (answer.Sees r) before after call at = this_call (act.Free p first last) (answer.Sees r) before after call _ at (λ told is. refl)
   releases_told (act.Give block) (answer.Sees r) before after call at = this_call (act.Give block) (answer.Sees r) before after call _ at (λ told is. refl)
   releases_told (act.Cache capacity) answer.Cached before after call at = this_call (act.Cache capacity) answer.Cached before after call _ at (λ told is. refl)
-  releases_told (act.Crash ledger journal) answer.Crashed before after call at = this_call (act.Crash ledger journal) answer.Crashed before after call _ at (λ told is. refl)
+  releases_told (act.Crash ledgers journal) answer.Crashed before after call at = this_call (act.Crash ledgers journal) answer.Crashed before after call _ at (λ told is. refl)
   releases_told a told before after call at = absurd (cc at)
 
 -- ---- events

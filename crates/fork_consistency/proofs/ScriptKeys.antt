@@ -13,8 +13,8 @@ use Rattle.lms_sign.specs.Secret.{Secret}
 use Rattle.lms_sign.specs.Tree.{inner_node, node}
 use Rattle.lms_sign.proofs.Validity.{is_key-public, length-public_key}
 use Rattle.principals.specs.TableText.{key as key_form}
-use Rattle.client_runs.specs.Runs.{public_key}
-use Rattle.client_runs.specs.Carried.{script_keys}
+use Rattle.client_runs.specs.Runs.{pinned}
+use Rattle.client_runs.specs.Carried.{script_key, script_keys}
 
 -- ---- bytes
 
@@ -55,5 +55,5 @@ key_fits : (secret : Secret) → length secret.id ≡ 16 → IsBytes secret.id �
 key_fits secret size are = ((length-public_key secret size, key_bytes secret are), is_key-public secret size)
 
 -- user 0's, which every client knows, has it
-pub pinned_fits : key_form.Fits (public_key script_keys 0)
-pinned_fits = key_fits (script_keys 0) (length-replicate {A = ℕ} 16 0) (same_bytes 16 0 (omega arith))
+pub pinned_fits : key_form.Fits (pinned script_keys)
+pinned_fits = key_fits (script_key 0 0) (length-replicate {A = ℕ} 16 0) (same_bytes 16 0 (omega arith))

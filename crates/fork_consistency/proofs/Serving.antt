@@ -53,7 +53,7 @@ use Rattle.client_verify.specs.Judged.{AsksOrAccepts, GoesOn, Handed, Judged, Ta
 use Rattle.client_verify.specs.Looked.{Given, Looked}
 use Rattle.client_verify.specs.State.{AcceptedView, Checked, Reading, Ready, State, Writing, asked_of, blocks_with, committed, holding, lists_under, on, over, signed_over, signed_text, signing_key}
 use Rattle.client_verify.proofs.GenesisLaws.{held_at_first}
-use Rattle.client_steps.specs.Steps.{Asks, Begins, Caches, Call, Client, Closed, Closes, Commits, Crashes, Gives, HasBegun, HasCached, HasGiven, HasHeard, HasLooked, HasSigned, HasTaken, Hears, IsStep, Looks, Open, Opens, Owner, Sees, Signs, Takes, principal_of}
+use Rattle.client_steps.specs.Steps.{Asks, Begins, Caches, Call, Client, Closed, Closes, Commits, Crashes, Gains, Gives, HasBegun, HasCached, HasGiven, HasHeard, HasLooked, HasResigned, HasSigned, HasTaken, Hears, IsStep, Looks, Open, Opens, Owner, Resigns, Sees, Signs, Takes, principal_of}
 use Rattle.agreement.proofs.Formed.{cert_user}
 use Rattle.agreement.proofs.Members.{In, contains_in, in-append, in-filter, in-left, in-right, in_contains}
 use Rattle.fork_consistency.proofs.AllWhole.{group_low}
@@ -358,6 +358,19 @@ module _ (put : List Bytes) (key : Key) (apart : NoneCollide (put ++ first_texts
         go (Err error.Foreign) h = same (h.err (λ d. cc d))
         go (Err error.Damaged) h = same (h.err (λ d. cc d))
 
+    resigns : (n : ℕ) (answer : Result Bytes ClientError) → HasResigned s n answer new → Serves new
+    resigns n answer b = go answer b
+      where
+        go : (a : Result Bytes ClientError) → HasResigned s n a new → Serves new
+        go (Ok text) h = subst (λ (m : State). Serves m) (sym h.resigned.2) (record { keeps = record { firsts = k.keeps.firsts; looking = k.keeps.looking }; checked = tt })
+        go (Err error.Device) h = subst (λ (m : State). Serves m) (sym (h.fails refl)) (record { keeps = record { firsts = k.keeps.firsts; looking = k.keeps.looking }; checked = tt })
+        go (Err error.Memory) h = same (h.err (λ d. cc d))
+        go (Err error.NoLeaf) h = same (h.err (λ d. cc d))
+        go (Err error.NoNumber) h = same (h.err (λ d. cc d))
+        go (Err error.NoKey) h = same (h.err (λ d. cc d))
+        go (Err error.Foreign) h = same (h.err (λ d. cc d))
+        go (Err error.Damaged) h = same (h.err (λ d. cc d))
+
     judged : (text : Bytes) (step : Asks) → IfSome (option_and_then lists_of (reply_in text)) IsInHand → HoldsAfter s None step new → Judged s text step new → Serves new
     judged text (Broken rule) hand held h = same h.1
     judged text (Need digest) hand held h = serves_after s.blocks new held (some_read s pinned among k.keeps (reply_in text) (Need digest) new hand h.1)
@@ -498,11 +511,13 @@ module _ (put : List Bytes) (key : Key) (apart : NoneCollide (put ++ first_texts
   step o own (Closed p) (Opens (Ok x)) (Open s) inside on is known k =
       opens o s own (ap (λ (n : State). n.blocks) is.state) (ap (λ (n : State). n.checked) is.state) (ap (λ (n : State). n.view) is.state)
   step o own (Closed p) (Opens (Err e)) (Closed q) inside on is known k = tt
+  step o own (Closed p) Gains (Closed q) inside on is known k = tt
   step o own (Closed p) Crashes (Closed q) inside on is known k = tt
   step o own (Closed p) call after inside on is known k = absurd is
   step o own (Open s) Closes (Closed p) inside on is known k = tt
   step o own (Open s) Crashes (Closed p) inside on is known k = tt
   step o own (Open s) (Begins changes laid answer) (Open new) inside on is known k = begins s new known.0 known.1 k changes laid answer is
+  step o own (Open s) (Resigns n answer) (Open new) inside on is known k = resigns s new known.0 known.1 k n answer is
   step o own (Open s) (Hears text answer) (Open new) inside on is known k = hears s new known.0 known.1 k text answer on is
   step o own (Open s) (Takes block answer) (Open new) inside on is known k = takes_block_in s new known.0 known.1 k block answer on inside is
   step o own (Open s) (Signs answer) (Open new) inside on is known k = signs s new known.0 known.1 k answer is

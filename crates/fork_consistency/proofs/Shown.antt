@@ -30,7 +30,7 @@ use Rattle.agreement.proofs.Formed.{same_spelled}
 use Rattle.agreement.proofs.Members.{In, in-left, in-right, of_all, to_all}
 use Rattle.client_steps.specs.Steps.{Call, Client, Closed, Gives, HasGiven, HasLooked, IsStep, Looks, Open, Owner, Sees}
 use Rattle.client_runs.specs.Released.{accepted_by, hashed, hashed_at, hashed_by, tried_view, views}
-use Rattle.client_runs.specs.Runs.{Event, IsRun, Keys, client_of, owner, public_key}
+use Rattle.client_runs.specs.Runs.{Event, IsRun, Keys, client_of, owner, pinned as pinned_key}
 use Rattle.fork_consistency.specs.Handles.{told_by_texts}
 use Rattle.fork_consistency.specs.Premises.{NoCollision, PinnedIsKey, Premises}
 use Rattle.fork_consistency.specs.Shown.{EachTells, HaveTrees, IsOfView, IsOfWorld, IsTrueInView, IsTrueInWorld, IsTrueOf, ShowTrees, ShowWorlds, answered, last_view, seen_in, view_told}
@@ -90,7 +90,7 @@ answers_true blocks x reads agrees users q answer h = absurd h
 
 module _ (keys : Keys) (run : List Event) (is : IsRun keys run) (apart : NoCollision keys run) (reads : Reading) (agrees : IsReadingOf keys run reads) where
   abbrev key : Key
-  key = public_key keys 0
+  key = pinned_key keys
 
   abbrev texts : List Bytes
   texts = hashed keys run
@@ -274,7 +274,7 @@ module _ (accepted : List View) (P Q : View → Question → Sees → Type 0) (R
 
 module _ (keys : Keys) (run : List Event) (is : IsRun keys run) (is_key : PinnedIsKey keys) (premises : Premises keys run) (reads : Reading) (agrees : IsReadingOf keys run reads) where
   abbrev pinned : Key
-  pinned = public_key keys 0
+  pinned = pinned_key keys
 
   by_reading : AreWorldsBy keys run reads
   by_reading = worlds_by keys run is is_key premises reads agrees

@@ -25,7 +25,7 @@ use Rattle.agreement.specs.Runs.{View}
 use Rattle.agreement.proofs.Members.{In, contains_in, in-append, in_contains, to_all}
 use Rattle.agreement.proofs.Tests.{all_in, first_holds}
 use Rattle.client_runs.specs.Released.{accepted_by, tried_view, views}
-use Rattle.client_runs.specs.Runs.{Event, IsRun, Keys, client_of, owner, public_key}
+use Rattle.client_runs.specs.Runs.{Event, IsRun, Keys, client_of, owner, pinned as pinned_key}
 use Rattle.fork_consistency.proofs.Causes.{changes_are_caused}
 use Rattle.fork_consistency.proofs.Holds.{IsTriedOver, known_in}
 use Rattle.fork_consistency.proofs.Judging.{cert_by_super, cert_verified, structure_by_super, structure_verified, unbroken, unbroken_by}
@@ -113,27 +113,27 @@ record IsSignedView (pinned : Key) (x : View) : Type 0 where
   causes : ChangesAreCaused pinned x
 
 module _ (keys : Keys) where
-  view_is : (older : List Event) (is : IsRun keys older) (u : User) (x : View) → IsTriedOver (owner keys u) (holds_at keys u older is).story older x → IsSignedView (public_key keys 0) x
+  view_is : (older : List Event) (is : IsRun keys older) (u : User) (x : View) → IsTriedOver (owner keys u) (holds_at keys u older is).story older x → IsSignedView (pinned_key keys) x
   view_is older is u x over =
       let r = of_lists x.lists in
       let rules = unbroken (known_in (owner keys u) (holds_at keys u older is).story) r over.good.judged.unbroken in
       let by = unbroken_by x.table x.lists over.good.by_table in
       let structures_signed = λ (z : Signed Structure) (i : In z x.lists.structures).
-      signed_by (public_key keys 0) x.table z.value.plan.user (version_of 0 z.value.plan.vector) (structure.spell z.value) z.signature (structure_verified x.table x.lists by.structures z i) (structure_by_super (public_key keys 0) r rules.by_super z i) in
+      signed_by (pinned_key keys) x.table z.value.plan.user (version_of 0 z.value.plan.vector) (structure.spell z.value) z.signature (structure_verified x.table x.lists by.structures z i) (structure_by_super (pinned_key keys) r rules.by_super z i) in
       let certificates_signed = λ (k : PendingItem) (i : In k (items x.lists)).
-      signed_by (public_key keys 0) x.table k.cert.user (version_of 0 k.plan.vector) (cert.spell k.cert) k.signature (cert_verified x.table x.lists by.certs k i) (cert_by_super (public_key keys 0) r rules.by_super k i) in
+      signed_by (pinned_key keys) x.table k.cert.user (version_of 0 k.plan.vector) (cert.spell k.cert) k.signature (cert_verified x.table x.lists by.certs k i) (cert_by_super (pinned_key keys) r rules.by_super k i) in
       record {
         signed = record {
           structures = λ z has. structures_signed z (contains_in z x.lists.structures has);
           certificates = λ k has. certificates_signed k (contains_in k (items x.lists) has);
           records = λ z g has_z has_g. of_members x.table x.lists by.rules z g (contains_in z x.lists.structures has_z) (contains_in g z.value.groups has_g);
         };
-        users = λ u low. user_stands (public_key keys 0) x structures_signed u low (structure_of u x.lists.structures) refl;
-        groups = λ g high. group_stands (public_key keys 0) x structures_signed (of_members x.table x.lists by.rules) g high (newest g x.lists.structures) refl;
-        causes = changes_are_caused (public_key keys 0) x certificates_signed;
+        users = λ u low. user_stands (pinned_key keys) x structures_signed u low (structure_of u x.lists.structures) refl;
+        groups = λ g high. group_stands (pinned_key keys) x structures_signed (of_members x.table x.lists by.rules) g high (newest g x.lists.structures) refl;
+        causes = changes_are_caused (pinned_key keys) x certificates_signed;
       }
 
-  each_signed : (run : List Event) → IsRun keys run → (x : View) → In x (views run) → IsSignedView (public_key keys 0) x
+  each_signed : (run : List Event) → IsRun keys run → (x : View) → In x (views run) → IsSignedView (pinned_key keys) x
   each_signed [] is x i = absurd i
   each_signed (e ∷ older) is x i =
       elim (in-append x (accepted_by e.call (client_of e.user older) e.after (tried_view e.user older)) (views older) i) [
@@ -142,13 +142,13 @@ module _ (keys : Keys) where
       ]
 
   pub are_signed : (run : List Event) → IsRun keys run → AreSigned keys run
-  are_signed run is = to_all (IsSigned (public_key keys 0)) (views run) (λ x i. (each_signed run is x i).signed)
+  are_signed run is = to_all (IsSigned (pinned_key keys)) (views run) (λ x i. (each_signed run is x i).signed)
 
   pub users_stand : (run : List Event) → IsRun keys run → UsersStandOnSigned keys run
-  users_stand run is = to_all (UserPartsStand (public_key keys 0)) (views run) (λ x i. (each_signed run is x i).users)
+  users_stand run is = to_all (UserPartsStand (pinned_key keys)) (views run) (λ x i. (each_signed run is x i).users)
 
   pub groups_stand : (run : List Event) → IsRun keys run → GroupsStandOnSigned keys run
-  groups_stand run is = to_all (GroupPartsStand (public_key keys 0)) (views run) (λ x i. (each_signed run is x i).groups)
+  groups_stand run is = to_all (GroupPartsStand (pinned_key keys)) (views run) (λ x i. (each_signed run is x i).groups)
 
   pub changes_have_causes : (run : List Event) → IsRun keys run → ChangesHaveCauses keys run
-  changes_have_causes run is = to_all (ChangesAreCaused (public_key keys 0)) (views run) (λ x i. (each_signed run is x i).causes)
+  changes_have_causes run is = to_all (ChangesAreCaused (pinned_key keys)) (views run) (λ x i. (each_signed run is x i).causes)

@@ -45,8 +45,8 @@ use Rattle.agreement.proofs.Formed.{cert_fits, same_spelled}
 use Rattle.agreement.proofs.Members.{In, in-append, in-filter, in-left, in-map, in-right, map-in, of_all}
 use Rattle.fork_consistency.specs.Premises.{HasReleased}
 use Rattle.client_runs.specs.Released.{Shown, accepted_by, hashed_at, shown_by, shown_cert, shown_structure, tried_view, views}
-use Rattle.client_runs.specs.Runs.{Event, IsRun, Keys, client_of, owner, public_key}
-use Rattle.fork_consistency.proofs.Genuine.{IsReleasedText, released_later, released_structure}
+use Rattle.client_runs.specs.Runs.{Event, IsOwnKey, IsRun, Keys, client_of, owner, pinned as pinned_key}
+use Rattle.fork_consistency.proofs.Genuine.{IsReleasedText, released_later, released_structure, pinned_own}
 use Rattle.fork_consistency.proofs.Holds.{IsTriedOver, known_in, signed_in}
 use Rattle.fork_consistency.proofs.Judging.{IsUnbroken, cert_by_super, structure_by_super, structure_fits, unbroken, unbroken_by}
 use Rattle.fork_consistency.proofs.Moves.{holds_at}
@@ -80,17 +80,21 @@ abbrev pub SuperGenuine : Keys → List Event → Type 0
 SuperGenuine keys [] = Unit {0}
 SuperGenuine keys (e ∷ older) = All (λ t. t.user ≡ 0 → IsReleasedText keys older t) (shown_by e.call) × SuperGenuine keys older
 
-genuine : (keys : Keys) (run : List Event) → SuperGenuine keys run → (t : Shown) → In t (shown run) → t.user ≡ 0 → valid (public_key keys t.user) t.text t.signature ≡ true → HasReleased t.user run t.text
-genuine keys [] none t i zero v = absurd i
-genuine keys (e ∷ older) none t i zero v =
+genuine : (keys : Keys) (run : List Event) → SuperGenuine keys run → (t : Shown) → In t (shown run) → t.user ≡ 0 → (key : Key) → IsOwnKey keys t.user key → valid key t.text t.signature ≡ true → HasReleased t.user run t.text
+genuine keys [] none t i zero key own v = absurd i
+genuine keys (e ∷ older) none t i zero key own v =
     elim (in-append t (shown_by e.call) (shown older) i) [
-      | inl j ↦ released_later e older t.user t.text (of_all (λ (x : Shown). x.user ≡ 0 → IsReleasedText keys older x) (shown_by e.call) none.0 t j zero v)
-      | inr j ↦ released_later e older t.user t.text (genuine keys older none.1 t j zero v)
+      | inl j ↦ released_later e older t.user t.text (of_all (λ (x : Shown). x.user ≡ 0 → IsReleasedText keys older x) (shown_by e.call) none.0 t j zero key own v)
+      | inr j ↦ released_later e older t.user t.text (genuine keys older none.1 t j zero key own v)
     ]
 
-module _ (keys : Keys) (whole : List Event) (is_whole : IsRun keys whole) (pinned : key_form.Fits (public_key keys 0)) where
+module _ (keys : Keys) (whole : List Event) (is_whole : IsRun keys whole) (pinned : key_form.Fits (pinned_key keys)) where
   abbrev key : Key
-  key = public_key keys 0
+  key = pinned_key keys
+
+  -- it is one of user 0's
+  super_own : (u : User) → u ≡ 0 → IsOwnKey keys u key
+  super_own u zero = subst (λ (w : User). IsOwnKey keys w key) (sym zero) (pinned_own keys pinned)
 
   -- ---- tables
 
@@ -299,7 +303,7 @@ module _ (keys : Keys) (whole : List Event) (is_whole : IsRun keys whole) (pinne
           over.good.judged.was_shown (shown_structure z)
           (in-left (shown_structure z) (map shown_structure x.lists.structures) (map shown_cert (items x.lists)) (map-in shown_structure x.lists.structures z j)) in
           let signature = by_super key (structure.spell z.value) z.signature z.value.plan.user zero (structure_by_super key r rules.by_super z j) in
-          let has = genuine keys older none (shown_structure z) was zero (ap (λ (w : User). valid (public_key keys w) (structure.spell z.value) z.signature) zero ∙ signature) in
+          let has = genuine keys older none (shown_structure z) was zero key (super_own z.value.plan.user zero) signature in
           let k = in_views keys z.value.plan.user older z.value (released_structure keys older is z.value.plan.user z.value (structure_fits r over.good.judged.fits z j) has) in
           let (y, m, same) = in-map signed_in (views older) z.value k in
           subst (λ (s : Structure). IsHandleAt s.plan.number s.handle) (sym same) ((before y m).handle (ap (λ (s : Structure). s.plan.user) (sym same) ∙ zero))
@@ -309,7 +313,7 @@ module _ (keys : Keys) (whole : List Event) (is_whole : IsRun keys whole) (pinne
           let was =
           over.good.judged.was_shown (shown_cert i) (in-right (shown_cert i) (map shown_structure x.lists.structures) (map shown_cert (items x.lists)) (map-in shown_cert (items x.lists) i j)) in
           let signature = by_super key (cert.spell i.cert) i.signature i.cert.user zero (cert_by_super key r rules.by_super i j) in
-          let has = genuine keys older none (shown_cert i) was zero (ap (λ (w : User). valid (public_key keys w) (cert.spell i.cert) i.signature) zero ∙ signature) in
+          let has = genuine keys older none (shown_cert i) was zero key (super_own i.cert.user zero) signature in
           within (cert.spell i.cert) (subst (λ (w : User). HasReleased w older (cert.spell i.cert)) zero has)
 
       item_is : (i : PendingItem) → In i (items x.lists) → IsItem x.lists i

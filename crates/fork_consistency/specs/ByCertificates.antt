@@ -4,7 +4,7 @@ use Rattle.std.specs.Prelude.{◌≡◌, ◌==◌, List, [], ◌∷◌, Option, 
 use Rattle.std.specs.List.{All, range_with_len}
 use Rattle.std.specs.Option.{option_map}
 use Rattle.layout.specs.Types.{Key, User, Version}
-use Rattle.principals.specs.Table.{Table, genesis as first_table, key_of}
+use Rattle.principals.specs.Table.{Table, genesis as first_table, key_at}
 use Rattle.principals.specs.TableText.{table}
 use Rattle.update_cert.specs.Cert.{Cert}
 use Rattle.update_cert.specs.Tables.{table_after}
@@ -61,7 +61,7 @@ AreByCertificates keys run = All (λ x. IsByCertificates (pinned keys) run x.tab
 abbrev pub HaveTexts : Keys → List Event → Type 0
 HaveTexts keys run = All (λ x. table.Fits x.table) (views run)
 
--- they list none of these users with a key but the user's own
+-- they list none of these users with a key but the user's own, at whatever number of user 0's
 abbrev pub ListOwnKeysOf : (User → Type 0) → Keys → List Event → Type 0
 ListOwnKeysOf some keys run =
-    All (λ x. (u : User) (k : Key) → some u → key_of u x.table ≡ Some k → IsOwnKey keys u k) (views run)
+    All (λ x. (u : User) (v : Version) (k : Key) → some u → key_at u v x.table ≡ Some k → IsOwnKey keys u k) (views run)

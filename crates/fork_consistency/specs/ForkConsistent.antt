@@ -125,9 +125,9 @@ pub record IsForkConsistent {A : Type 0} (steps : List (WorldStep A)) (answers :
   pub is_run : IsRun script_keys events
   pub kept : Keep (reverse steps) (reverse answers) events
   pub told : AreTold script_keys (reverse steps) (reverse answers) events
-  pub leaves : (u : User) → LeavesOnce u events
-  pub certificates : (u : User) → CertificatesOnce u events
-  pub structures : (u : User) → StructuresOnce u events
+  pub leaves : (u : User) → LeavesOnce script_keys u events
+  pub certificates : (u : User) → CertificatesOnce script_keys u events
+  pub structures : (u : User) → StructuresOnce script_keys u events
   pub consistent : Premises script_keys events → AreForkConsistent script_keys events
   pub consistent_at_each_moment : Premises script_keys events → AtEachMoment (AreForkConsistent script_keys) events
   pub where_stolen : (stolen : User → Bool) → StolenPremises stolen script_keys events

@@ -1,5 +1,5 @@
 -- The premises of fork consistency, which speak of the texts of one run alone: no signature is forged, no digest
--- collides, and user 0's client added each user with the user's own key, and set no other.
+-- collides, and user 0's client added each user with one of the user's own keys, and set no other.
 use Rattle.std.specs.Prelude.{◌≡◌, List, [], ◌∷◌, IfSome, true, map}
 use Rattle.std.specs.List.{All, Contains}
 use Rattle.layout.specs.Types.{Bytes, Digest, Key, User}
@@ -21,11 +21,11 @@ use Rattle.client_runs.specs.UsedOnce.{LeavesOnce}
 abbrev pub HasReleased : User → List Event → Bytes → Type 0
 HasReleased u run text = Contains (map unsigned (released u run)) text
 
--- what verifies under the user's own key was released by the user's client, if no two texts that this client released
--- in the whole run carry one leaf number
+-- what verifies under one of the user's own keys was released by the user's client, if of the texts that this client
+-- released in the whole run no two of one key carry one leaf number
 abbrev pub IsGenuine : Keys → List Event → List Event → Shown → Type 0
 IsGenuine keys whole older t =
-    LeavesOnce t.user whole → (key : Key) → IsOwnKey keys t.user key → valid key t.text t.signature ≡ true
+    LeavesOnce keys t.user whole → (key : Key) → IsOwnKey keys t.user key → valid key t.text t.signature ≡ true
     → HasReleased t.user older t.text
 
 -- all users
@@ -44,7 +44,7 @@ NoForgery keys run = NoneForgedOf everybody keys run run
 abbrev pub NoCollision : Keys → List Event → Type 0
 NoCollision keys run = NoneCollide (hashed keys run) (hashed keys run)
 
--- an action that adds one of these users, or sets a key of one, gives the user's own key
+-- an action that adds one of these users, or sets a key of one, gives one of the user's own keys
 abbrev pub GivesOwnKeyOf : (User → Type 0) → Keys → Action Digest → Type 0
 GivesOwnKeyOf some keys (AddUser u key) = some u → IsOwnKey keys u key
 GivesOwnKeyOf some keys (SetKey u key) = some u → IsOwnKey keys u key
@@ -55,15 +55,16 @@ abbrev pub TextAddsOwnKeysOf : (User → Type 0) → Keys → Bytes → Type 0
 TextAddsOwnKeysOf some keys text =
     IfSome (cert_in 0 text) (λ c. All (λ change. GivesOwnKeyOf some keys change.action) c.value.changes)
 
--- each of these users that user 0's client added, or gave a key, in a certificate that it released, has its own key
+-- each of these users that user 0's client added, or gave a key, in a certificate that it released, was given one of
+-- its own
 abbrev pub AddsOwnKeysOf : (User → Type 0) → Keys → List Event → Type 0
 AddsOwnKeysOf some keys run = All (TextAddsOwnKeysOf some keys) (released 0 run)
 
 abbrev pub AddsOwnKeys : Keys → List Event → Type 0
 AddsOwnKeys keys run = AddsOwnKeysOf everybody keys run
 
--- No signature of these users is forged, no digest collides, and user 0's client added each of them with the user's own
--- key.
+-- No signature of these users is forged, no digest collides, and user 0's client gave each of them no key but the
+-- user's own.
 pub record PremisesOf (some : User → Type 0) (keys : Keys) (run : List Event) : Type 0 where
   pub no_forgery : NoneForgedOf some keys run run
   pub no_collision : NoCollision keys run
