@@ -1,5 +1,5 @@
 -- The calls of honest clients are answered with success.
-use Rattle.std.proofs.Common.{◌≡◌, ◌+◌, ◌<◌, List, [], ◌∷◌, ◌++◌, Option, Some, None, true, false, refl, sym, ap, ◌∙◌, subst, inl, inr, arith}
+use Rattle.std.proofs.Common.{◌≡◌, ℕ, ◌+◌, ◌<◌, List, [], ◌∷◌, ◌++◌, Option, Some, None, true, false, refl, sym, ap, ◌∙◌, subst, inl, inr, arith}
 use Rattle.std.specs.Prelude.{◌⊎◌, ◌==◌, find, is_some, not, IfSome}
 use Rattle.std.specs.Int.{w8}
 use Rattle.std.specs.Option.{option_map, option_map_or}
@@ -9,7 +9,7 @@ use Rattle.layout.specs.Format.{IsBytes, whole}
 use Rattle.layout.specs.Laws.{in_range, whole_again}
 use Rattle.layout.specs.Types.{Bytes, Key}
 use Rattle.lms_sign.specs.Signature.{valid}
-use Rattle.principals.specs.Table.{Listing, key_at, key_of, last_key, lists_user}
+use Rattle.principals.specs.Table.{Listing, Table, key_at, key_of, last_key, lists_user}
 use Rattle.version_order.specs.Plan.{Plan, plan}
 use Rattle.version_order.specs.Structure.{Structure, structure}
 use Rattle.version_order.specs.StructureLaws.{lawful_structure}
@@ -30,7 +30,7 @@ use Rattle.agreement.proofs.Formed.{same_spelled}
 use Rattle.agreement.proofs.Members.{In, contains_in, in_contains, in-map}
 use Rattle.honest_history.specs.Honest.{AreHonest, IsHonest, Naming}
 use Rattle.honest_history.specs.Served.{IsHonestHistory}
-use Rattle.honest_history.specs.Answered.{IsDeclared, IsSent, IsUpdateStatus}
+use Rattle.honest_history.specs.Answered.{IsDeclared, IsSent, IsUpdateStatus, is_under_last_key}
 use Rattle.honest_history.proofs.Entries.{last_all, last_seen}
 use Rattle.honest_history.proofs.Events.{latests_after}
 use Rattle.honest_history.proofs.Fitting.{Fitted, fitted}
@@ -43,6 +43,14 @@ use Rattle.honest_history.proofs.Tables.{key_listed}
 use Rattle.honest_history.proofs.Timeline.{user}
 
 -- ---- UPDATE
+
+-- who has no key isn't listed
+pub not_listed : (t : Table) (u : ℕ) → key_of u t ≡ None → lists_user t u ≡ false
+not_listed t u e = go (find (λ l. l.user == u) t.users) refl e
+  where
+    go : (o : Option Listing) → find (λ l. l.user == u) t.users ≡ o → option_map (λ l. last_key l.key l.later) o ≡ None → lists_user t u ≡ false
+    go None f m = any_none (λ (l : Listing). l.user == u) t.users (find_nothing (λ (l : Listing). l.user == u) t.users f)
+    go (Some l) f m = cc
 
 module _ (pinned : Key) (es : List Event) (c : Signed Cert) (g : Good pinned es) (d : IsDeclared pinned es c) where
   abbrev state : State
@@ -83,32 +91,29 @@ module _ (pinned : Key) (es : List Event) (c : Signed Cert) (g : Good pinned es)
       and_from _ _ (eq-eqb c.value.number (version_of c.value.user state.vector + 1) (omega arith)) (and_from _ _ free (bytes_equal _ _ named))
 
   abbrev Answers : Outcome → Type 0
-  Answers o = IsUpdateStatus pinned es c.value (answer o).status
+  Answers o = IsUpdateStatus pinned es c (answer o).status
 
   -- it is placed, or one of its versions can grow no further
   placed : find (same_cert c) state.pending ≡ None → Answers (placing state c)
   placed e =
       let next = is_the_next (none_waits e) in
       elim (cases_Bool (at_limit state c.value)) [
-        | inl l ↦ (let is : placing state c ≡ Refused status.TooLarge = rw (next, l) refl in subst Answers (sym is) (inr (inr (refl, l))))
+        | inl l ↦ (let is : placing state c ≡ Refused status.TooLarge = rw (next, l) refl in subst Answers (sym is) (inr (inr (inr (refl, l)))))
         | inr l ↦ (let is : placing state c ≡ Happens (Placed c) (reply.spell (next_reply state c)) = rw (next, l) refl in subst Answers (sym is) (inl refl))
       ]
 
-  -- who has no key isn't listed
-  not_listed : key_of c.value.user state.table ≡ None → lists_user state.table c.value.user ≡ false
-  not_listed e = go (find (λ l. l.user == c.value.user) state.table.users) refl e
-    where
-      go : (o : Option Listing) → find (λ l. l.user == c.value.user) state.table.users ≡ o → option_map (λ l. last_key l.key l.later) o ≡ None → lists_user state.table c.value.user ≡ false
-      go None f m = any_none (λ (l : Listing). l.user == c.value.user) state.table.users (find_nothing (λ (l : Listing). l.user == c.value.user) state.table.users f)
-      go (Some l) f m = cc
-
-  verified : find (same_cert c) state.pending ≡ None → (o : Option Key) → key_of c.value.user state.table ≡ o → IfSome o (λ key. valid key (cert.spell c.value) c.signature ≡ true) → Answers (verified_update state c o)
-  verified free None e h = inr (inl (refl, not_listed e))
-  verified free (Some key) e h = rw h (placed free)
+  verified : find (same_cert c) state.pending ≡ None → (o : Option Key) → key_of c.value.user state.table ≡ o → Answers (verified_update state c o)
+  verified free None e = inr (inl (refl, not_listed state.table c.value.user e))
+  verified free (Some key) e =
+      let last : is_under_last_key state.table c ≡ valid key (cert.spell c.value) c.signature = ap (λ o. option_map_or (λ key. valid key (cert.spell c.value) c.signature) o false) e in
+      elim (cases_Bool (valid key (cert.spell c.value) c.signature)) [
+        | inl v ↦ rw v (placed free)
+        | inr v ↦ rw v (inr (inr (inl (refl, last ∙ v))))
+      ]
 
   beside : (o : Option Placement) → find (same_cert c) state.pending ≡ o → Answers (update_beside o state c)
   beside (Some w) e = inl refl
-  beside None e = verified e (key_of c.value.user state.table) refl d.signed
+  beside None e = verified e (key_of c.value.user state.table) refl
 
   pub update_answered : Answers (outcome_of state (update_of ((signed cert).spell c)))
   unfolding outcome_of
@@ -116,7 +121,7 @@ module _ (pinned : Key) (es : List Event) (c : Signed Cert) (g : Good pinned es)
       subst (λ r. Answers (read_update state r)) (sym (whole_again (signed cert) (lawful_signed cert lawful_cert) c d.fits))
       (beside (find (same_cert c) state.pending) refl)
 
-pub each_update : (naming : Naming) (pinned : Key) (history : List Call) → IsHonestHistory naming pinned history → (c : Signed Cert) → IsDeclared pinned (events pinned history) c → IsUpdateStatus pinned (events pinned history) c.value (answer_of pinned history (update_of ((signed cert).spell c))).status
+pub each_update : (naming : Naming) (pinned : Key) (history : List Call) → IsHonestHistory naming pinned history → (c : Signed Cert) → IsDeclared pinned (events pinned history) c → IsUpdateStatus pinned (events pinned history) c (answer_of pinned history (update_of ((signed cert).spell c))).status
 each_update naming pinned history h c d = update_answered pinned (events pinned history) c (reached naming pinned (events pinned history) (reach naming pinned history h.bytes h.honest)).0 d
 
 -- ---- COMMIT

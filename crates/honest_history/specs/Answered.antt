@@ -1,10 +1,11 @@
 -- The calls that honest clients make, and their answers.
-use Rattle.std.specs.Prelude.{◌≡◌, ◌⊎◌, ◌+◌, List, ◌∷◌, Some, IfSome, true, false}
+use Rattle.std.specs.Prelude.{◌≡◌, ◌⊎◌, ◌+◌, Bool, List, ◌∷◌, Some, IfSome, true, false}
 use Rattle.std.specs.List.{Contains}
+use Rattle.std.specs.Option.{option_map_or}
 use Rattle.layout.specs.Format.{IsBytes}
 use Rattle.layout.specs.Types.{Bytes, Key}
 use Rattle.lms_sign.specs.Signature.{valid}
-use Rattle.principals.specs.Table.{key_at, key_of, lists_user}
+use Rattle.principals.specs.Table.{Table, key_at, key_of, lists_user}
 use Rattle.version_order.specs.Structure.{Structure, structure}
 use Rattle.version_order.specs.Vector.{version_of}
 use Rattle.update_cert.specs.Cert.{Cert, cert}
@@ -21,13 +22,11 @@ use Rattle.honest_history.specs.Honest.{IsHonest, Naming, number_in}
 use Rattle.honest_history.specs.Served.{IsHonestHistory}
 
 -- The certificate is one that an honest client declares whose last structure the server took last of the user: the
--- next one, signed under the key that the table has of the user, if it has one; of the user nothing else is pending.
+-- next one, under whatever key; of the user nothing else is pending.
 pub record IsDeclared (pinned : Key) (es : List Event) (c : Signed Cert) : Type 0 where
   pub fits : (signed cert).Fits c
   pub number : c.value.number ≡ number_in (last_of c.value.user es) + 1
   pub last : c.value.last ≡ digest_of_last (last_of c.value.user es)
-  pub signed : IfSome (key_of c.value.user (table_after pinned es))
-      (λ key. valid key (cert.spell c.value) c.signature ≡ true)
   pub alone : (w : Placement) → Contains (pending_after pinned es) w → w.item.plan.user ≡ c.value.user
       → cert_of w.item ≡ c
 
@@ -40,19 +39,25 @@ pub record IsSent (naming : Naming) (pinned : Key) (es : List Event) (z : Signed
   pub signed : IfSome (key_at z.value.plan.user (version_of 0 z.value.plan.vector) (table_after pinned es))
       (λ key. valid key (structure.spell z.value) z.signature ≡ true)
 
--- success; or the user isn't listed; or one of the versions that the operation raises can grow no further
-abbrev pub IsUpdateStatus : Key → List Event → Cert → Status → Type 0
+-- it is signed under the key that came last of those that the table has of its user
+abbrev pub is_under_last_key : Table → Signed Cert → Bool
+is_under_last_key t c = option_map_or (λ key. valid key (cert.spell c.value) c.signature) (key_of c.value.user t) false
+
+-- success; or the user isn't listed; or the certificate isn't signed under the user's last key; or one of the versions
+-- that the operation raises can grow no further
+abbrev pub IsUpdateStatus : Key → List Event → Signed Cert → Status → Type 0
 IsUpdateStatus pinned es c s =
     (s ≡ status.Ok)
-    ⊎ (((s ≡ status.UnknownUser) × (lists_user (table_after pinned es) c.user ≡ false))
-    ⊎ ((s ≡ status.TooLarge) × (at_limit (state_after pinned es) c ≡ true)))
+    ⊎ (((s ≡ status.UnknownUser) × (lists_user (table_after pinned es) c.value.user ≡ false))
+    ⊎ (((s ≡ status.BadSignature) × (is_under_last_key (table_after pinned es) c ≡ false))
+    ⊎ ((s ≡ status.TooLarge) × (at_limit (state_after pinned es) c.value ≡ true))))
 
 -- each such UPDATE is answered so
 abbrev pub EachUpdateIsAnswered : Type 0
 EachUpdateIsAnswered =
     (naming : Naming) (pinned : Key) (history : List Call) → IsHonestHistory naming pinned history
     → (c : Signed Cert) → IsDeclared pinned (events pinned history) c
-    → IsUpdateStatus pinned (events pinned history) c.value
+    → IsUpdateStatus pinned (events pinned history) c
     (answer_of pinned history (update_of ((signed cert).spell c))).status
 
 -- and each such COMMIT with success

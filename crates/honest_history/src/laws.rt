@@ -13,8 +13,8 @@ pub fn replies_are_unbroken()
     ensures { EachReplyIsUnbroken }
 {}
 
-/// The calls that honest clients make are answered with success, but for an UPDATE of a user that isn't listed, or
-/// whose versions can grow no further.
+/// The calls that honest clients make are answered with success, but for an UPDATE of a user that isn't listed, under
+/// another key than the user's last one, or whose versions can grow no further.
 pub fn calls_are_answered()
     ensures updates { EachUpdateIsAnswered }
     ensures commits { EachCommitIsAnswered }
