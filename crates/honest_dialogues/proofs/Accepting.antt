@@ -26,15 +26,15 @@ use Rattle.honest_history.proofs.Good.{item_of, pending_in}
 use Rattle.honest_history.proofs.Members.{find_some}
 use Rattle.honest_history.proofs.Named.{has_table, table_of_reply}
 use Rattle.honest_history.proofs.Reached.{Reached, reach, reached, reached_before, still_kept}
-use Rattle.honest_dialogues.specs.Dialogue.{Accepts, Declared, IsNaming, IsSealed, Keys, Move, Sealed, calls, stage_of, views}
+use Rattle.honest_dialogues.specs.Dialogue.{Accepts, Declared, IsNaming, IsSealed, Move, Sealed, calls, stage_of, views}
 use Rattle.honest_dialogues.specs.GoingOn.{events_of}
 use Rattle.honest_dialogues.proofs.Moves.{InStep, others_stand}
-use Rattle.honest_dialogues.proofs.Stages.{IsDeclaredAt, IsHeard, IsSealedAt, stands_seen}
+use Rattle.honest_dialogues.proofs.Stages.{IsDeclaredAt, IsHeard, IsSealedAt, IsUnder, stands_seen}
 
 -- no handle names two tables, so that a reply has one
-pub one_table : (keys : Keys) (naming : Naming) → IsNaming keys naming → (x : Lists) (t u : Table) → IsTableOf naming (keys 0) x t → IsTableOf naming (keys 0) x u → t ≡ u
-one_table keys naming is x t u a b =
-    let users = is.once (handle_in (keys 0) x.structures 0) a.users b.users a.named b.named in
+pub one_table : (pinned : Key) (naming : Naming) → IsNaming pinned naming → (x : Lists) (t u : Table) → IsTableOf naming pinned x t → IsTableOf naming pinned x u → t ≡ u
+one_table pinned naming is x t u a b =
+    let users = is.once (handle_in pinned x.structures 0) a.users b.users a.named b.named in
     a.after
     ∙ ap (λ (w : Table). option_map_or (λ (i : PendingItem). after_operation i.cert w) (find (λ i. i.plan.user == 0) (items x)) w) users
     ∙ sym b.after
@@ -45,14 +45,11 @@ committed_since [] first z h = h
 committed_since (Placed c ∷ later) first z h = committed_since later first z h
 committed_since (Committed y ∷ later) first z h = inr (committed_since later first z h)
 
-module _ (keys : Keys) (naming : Naming) (is : IsNaming keys naming) (older : List Move) (s : InStep keys naming older) where
-  abbrev pinned : Key
-  pinned = keys 0
-
+module _ (pinned : Key) (naming : Naming) (is : IsNaming pinned naming) (older : List Move) (s : InStep pinned naming older) where
   abbrev es : List Event
-  es = events_of keys older
+  es = events_of pinned older
 
-  module _ (u : ℕ) (last : Option (Signed Structure)) (c : Signed Cert) (x : Lists) (v : View) (z : Signed Structure) (d : IsDeclaredAt keys es u last c (Some x)) (sealed : IsSealed keys naming u last x v z) where
+  module _ (u : ℕ) (last : Option (Signed Structure)) (c : Signed Cert) (x : Lists) (v : View) (z : Signed Structure) (d : IsDeclaredAt pinned es u last c (Some x)) (sealed : IsSealed pinned naming u last x v z) where
     heard : IsHeard pinned es c x
     heard = d.heard_is x refl
 
@@ -65,7 +62,7 @@ module _ (keys : Keys) (naming : Naming) (is : IsNaming keys naming) (older : Li
 
     table_is : v.table ≡ table_to pinned heard.earlier c
     table_is =
-        one_table keys naming is x v.table (table_to pinned heard.earlier c) sealed.table
+        one_table pinned naming is x v.table (table_to pinned heard.earlier c) sealed.table
         (subst (λ x. IsTableOf naming pinned x (table_to pinned heard.earlier c)) (sym heard.lists)
         (table_of_reply naming pinned heard.earlier c (has_table naming pinned is.first (Placed c ∷ heard.earlier) reached_then)))
 
@@ -88,6 +85,10 @@ module _ (keys : Keys) (naming : Naming) (is : IsNaming keys naming) (older : Li
               (subst (λ o. SignsOver naming v.table o (lists_to pinned heard.earlier c) z.value) last_then
               (subst (λ x. SignsOver naming v.table last x z.value) heard.lists sealed.over));
         }
+
+    -- under the key that the table names then
+    now_under : IsUnder pinned (table_to pinned heard.earlier c) z
+    now_under = subst (λ t. IsUnder pinned t z) table_is sealed.is_signed
 
     plan_is : z.value.plan ≡ (next_item (state_after pinned heard.earlier) c).plan
     plan_is = sealed.over.plan ∙ ap (λ (l : Lists). l.own.plan) heard.lists
@@ -118,22 +119,21 @@ module _ (keys : Keys) (naming : Naming) (is : IsNaming keys naming) (older : Li
           released = released;
         }
 
-    pub accepts : stage_of u older ≡ Declared last c (Some x) → InStep keys naming (record { user = u; act = Accepts v; after = Sealed z } ∷ older)
+    pub accepts : stage_of u older ≡ Declared last c (Some x) → InStep pinned naming (record { user = u; act = Accepts v; after = Sealed z } ∷ older)
+    unfolding now_honest heard
     accepts at =
         let m : Move = record { user = u; act = Accepts v; after = Sealed z } in
         let more : (y : View) → In y (views older) → In y (v ∷ views older) = λ y i. inr i in
-        let here : IsSealedAt keys naming es (v ∷ views older) u z = record {
+        let here : IsSealedAt pinned naming es (v ∷ views older) u z = record {
           user_is = own_user;
           fits = sealed.fits;
           bytes = sealed.bytes;
-          is_signed = sealed.is_signed;
           seen = (v, inl refl, sealed.view_signed);
-          sent = inr now_honest;
+          sent = inr (now_honest, now_under);
         } in
         record {
           honest = s.honest;
-          own_keys = s.own_keys;
-          stands = others_stand keys naming is es es (views older) (v ∷ views older) older m here (λ w n. stands_seen keys naming es (views older) (v ∷ views older) w (stage_of w older) more (s.stands w));
+          stands = others_stand pinned naming is es es (views older) (v ∷ views older) older m here (λ w n. stands_seen pinned naming es (views older) (v ∷ views older) w (stage_of w older) more (s.stands w));
           over = (over_now, s.over);
           shown = λ y i. (let k = s.shown y i in (k.0, inr k.1, k.2));
           answers = (rw at tt, s.answers);

@@ -40,7 +40,7 @@ use Rattle.honest_history.proofs.Outcomes.{NewCommit, NewUpdate, NoCommit, NoUpd
 use Rattle.honest_history.proofs.Reached.{honest_before, honest_open, reach, reached, still_kept}
 use Rattle.honest_history.proofs.Replies.{each_reply}
 use Rattle.honest_history.proofs.Waiting.{Grown}
-use Rattle.honest_dialogues.specs.Dialogue.{Keys, WasAnswered, commit_by, success, update_by}
+use Rattle.honest_dialogues.specs.Dialogue.{WasAnswered, commit_by, success, update_by}
 use Rattle.honest_dialogues.specs.OneLine.{AreUnbroken, known_to}
 use Rattle.honest_dialogues.proofs.Stages.{Free, IsDeclaredAt, IsHeard, IsSealedAt}
 
@@ -97,7 +97,7 @@ record AnsweredThen (naming : Naming) (pinned : Key) (history : List Call) (call
   answer : answer_of pinned earlier call ≡ a
 
 module _ (naming : Naming) (pinned : Key) where
-  before : (call : Call) (history : List Call) → IsHonestHistory naming pinned (call ∷ history) → IsHonestHistory naming pinned history
+  pub before : (call : Call) (history : List Call) → IsHonestHistory naming pinned (call ∷ history) → IsHonestHistory naming pinned history
   unfolding events outcome_of
   before call history h = record {
     first = h.first;
@@ -185,10 +185,7 @@ module _ (naming : Naming) (pinned : Key) where
 
 -- ---- clients
 
-module _ (keys : Keys) (naming : Naming) (history : List Call) (h : IsHonestHistory naming (keys 0) history) where
-  abbrev pinned : Key
-  pinned = keys 0
-
+module _ (pinned : Key) (naming : Naming) (history : List Call) (h : IsHonestHistory naming pinned history) where
   abbrev es : List Event
   es = events pinned history
 
@@ -197,7 +194,7 @@ module _ (keys : Keys) (naming : Naming) (history : List Call) (h : IsHonestHist
 
   -- ---- a reply
 
-  module _ (u : ℕ) (last : Option (Signed Structure)) (c : Signed Cert) (heard : Option Lists) (d : IsDeclaredAt keys es u last c heard) (payload : Bytes) (was : WasAnswered pinned history (update_by c) (success payload)) where
+  module _ (u : ℕ) (last : Option (Signed Structure)) (c : Signed Cert) (heard : Option Lists) (d : IsDeclaredAt pinned es u last c heard) (payload : Bytes) (was : WasAnswered pinned history (update_by c) (success payload)) where
     then_was : AnsweredThen naming pinned history (update_by c) (success payload)
     then_was = answered naming pinned history h (update_by c) (success payload) was
 
@@ -268,9 +265,9 @@ module _ (keys : Keys) (naming : Naming) (history : List Call) (h : IsHonestHist
         ∙ then_kept.last ∙ sym now_kept.last ∙ ap (λ (v : ℕ). last_of v es) user_is ∙ sym d.last_is
 
     -- it breaks no rule
-    pub unbroken_then : (x : Lists) × (t : Table) × IsUnbroken naming (known_to keys u last c) payload x t
+    pub unbroken_then : (x : Lists) × (t : Table) × IsUnbroken naming (known_to pinned u last c) payload x t
     unbroken_then =
-        let known : known_after pinned (events pinned then_was.earlier) served.cert ((signed cert).spell c) ≡ known_to keys u last c
+        let known : known_after pinned (events pinned then_was.earlier) served.cert ((signed cert).spell c) ≡ known_to pinned u last c
         = ap (λ (v : ℕ). record { user = v; pinned = pinned; last = last_of served.cert.value.user (events pinned then_was.earlier); declared = (signed cert).spell c }) user_is
         ∙ ap (λ (o : Option (Signed Structure)). record { user = u; pinned = pinned; last = o; declared = (signed cert).spell c }) last_then in (
           lists_to pinned served.earlier served.cert,
@@ -278,20 +275,21 @@ module _ (keys : Keys) (naming : Naming) (history : List Call) (h : IsHonestHist
           subst (λ (k : Known). IsUnbroken naming k payload (lists_to pinned served.earlier served.cert) (table_to pinned served.earlier served.cert)) known served.unbroken,
         )
 
-  pub are_unbroken : (u : ℕ) (last : Option (Signed Structure)) (c : Signed Cert) (heard : Option Lists) → IsDeclaredAt keys es u last c heard → AreUnbroken keys naming history u last c
+  pub are_unbroken : (u : ℕ) (last : Option (Signed Structure)) (c : Signed Cert) (heard : Option Lists) → IsDeclaredAt pinned es u last c heard → AreUnbroken pinned naming history u last c
   are_unbroken u last c heard d payload was = unbroken_then u last c heard d payload was
 
   -- ---- a structure
 
   -- that was taken is the user's last, and nothing is pending
-  pub committed_then : (vs : List View) (u : ℕ) (z : Signed Structure) → IsSealedAt keys naming es vs u z → (payload : Bytes) → WasAnswered pinned history (commit_by z) (success payload) → (last_of u es ≡ Some z) × Free pinned es u
+  pub committed_then : (vs : List View) (u : ℕ) (z : Signed Structure) → IsSealedAt pinned naming es vs u z → (payload : Bytes) → WasAnswered pinned history (commit_by z) (success payload) → (last_of u es ≡ Some z) × Free pinned es u
   committed_then vs u z d payload was =
       let a = answered naming pinned history h (commit_by z) (success payload) was in
       let then_es : List Event = events pinned (commit_by z ∷ a.earlier) in
       let there = committed_stays then_es es a.since z (was_taken naming pinned a.earlier a.honest z d.fits payload a.answer) in
       elim d.sent [
         | inl k ↦ k
-        | inr honest ↦ absurd (
+        | inr k ↦ absurd (
+            let honest = k.0 in
             let own = next_item (state_after pinned honest.earlier) honest.cert in
             let opened = (honest_open pinned es z.value naming grown_now.0 honest).1 in
             let plan : z.value.plan ≡ own.plan = honest.over.plan in

@@ -1,7 +1,8 @@
-pub mod OwnKeys
 pub mod Stages
+pub mod UnderKeys
 pub mod Calls
 pub mod Earlier
+pub mod Declined
 pub mod Moves
 pub mod Accepting
 pub mod Dialogues

@@ -3,7 +3,7 @@
 -- The rules stand in docs/RULES.md.
 use Rattle.std.specs.Prelude.{◌≡◌, List, [], ◌∷◌, Option}
 use Rattle.std.specs.List.{Contains}
-use Rattle.layout.specs.Types.{Bytes, User}
+use Rattle.layout.specs.Types.{Bytes, Key, User}
 use Rattle.principals.specs.Table.{Table}
 use Rattle.version_order.specs.Structure.{Structure}
 use Rattle.update_cert.specs.Cert.{Cert, cert}
@@ -20,53 +20,53 @@ use Rattle.honest_history.specs.Placed.{placed}
 use Rattle.honest_history.specs.Honest.{Naming}
 use Rattle.honest_history.specs.Served.{IsUnbroken}
 use Rattle.honest_history.specs.Answered.{IsUpdateStatus}
-use Rattle.honest_dialogues.specs.Dialogue.{Act, Commits, Declared, Hears, IsDialogue, IsNaming, Keys, Move, Sealed, Stage, Updates, WasAnswered, calls, commit_by, stage_of, success, update_by, views}
+use Rattle.honest_dialogues.specs.Dialogue.{Act, Commits, Declared, Hears, IsDialogue, IsNaming, Move, Sealed, Stage, Updates, WasAnswered, calls, commit_by, stage_of, success, update_by, views}
 
 -- what a user's client knows that declared this certificate after this last structure
-abbrev pub known_to : Keys → User → Option (Signed Structure) → Signed Cert → Known
-known_to keys u last c = record { user = u; pinned = keys 0; last = last; declared = (signed cert).spell c }
+abbrev pub known_to : Key → User → Option (Signed Structure) → Signed Cert → Known
+known_to pinned u last c = record { user = u; pinned = pinned; last = last; declared = (signed cert).spell c }
 
--- UPDATE is answered with a reply in which the client finds no rule broken; or its user isn't listed; or one of the
--- versions that the operation raises can grow no further.
-pub record IsGoodUpdate (keys : Keys) (naming : Naming) (history : List Call) (u : User)
+-- UPDATE is answered with a reply in which the client finds no rule broken; or its user isn't listed; or it isn't
+-- signed under the user's last key; or one of the versions that the operation raises can grow no further.
+pub record IsGoodUpdate (pinned : Key) (naming : Naming) (history : List Call) (u : User)
     (last : Option (Signed Structure)) (c : Signed Cert) : Type 0 where
-  pub answered : IsUpdateStatus (keys 0) (events (keys 0) history) c.value
-      (answer_of (keys 0) history (update_by c)).status
+  pub answered : IsUpdateStatus pinned (events pinned history) c
+      (answer_of pinned history (update_by c)).status
   pub unbroken : (payload : Bytes)
-      → answer_of (keys 0) history (update_by c) ≡ success payload
-      → (x : Lists) × (t : Table) × IsUnbroken naming (known_to keys u last c) payload x t
+      → answer_of pinned history (update_by c) ≡ success payload
+      → (x : Lists) × (t : Table) × IsUnbroken naming (known_to pinned u last c) payload x t
 
 -- in each reply with which UPDATE was answered the client finds no rule broken
-abbrev pub AreUnbroken : Keys → Naming → List Call → User → Option (Signed Structure) → Signed Cert → Type 0
-AreUnbroken keys naming history u last c =
-    (payload : Bytes) → WasAnswered (keys 0) history (update_by c) (success payload)
-    → (x : Lists) × (t : Table) × IsUnbroken naming (known_to keys u last c) payload x t
+abbrev pub AreUnbroken : Key → Naming → List Call → User → Option (Signed Structure) → Signed Cert → Type 0
+AreUnbroken pinned naming history u last c =
+    (payload : Bytes) → WasAnswered pinned history (update_by c) (success payload)
+    → (x : Lists) × (t : Table) × IsUnbroken naming (known_to pinned u last c) payload x t
 
 -- COMMIT is answered with success
-abbrev pub IsGoodCommit : Keys → List Call → Signed Structure → Type 0
-IsGoodCommit keys history z = (answer_of (keys 0) history (commit_by z)).status ≡ status.Ok
+abbrev pub IsGoodCommit : Key → List Call → Signed Structure → Type 0
+IsGoodCommit pinned history z = (answer_of pinned history (commit_by z)).status ≡ status.Ok
 
 -- what the server answers to a client that is so far, if it sends a call, or answered before, if it hears of one
-abbrev pub IsGoodAnswer : Keys → Naming → List Call → User → Stage → Act → Type 0
-IsGoodAnswer keys naming history u (Declared last c heard) Updates = IsGoodUpdate keys naming history u last c
-IsGoodAnswer keys naming history u (Declared last c heard) Hears = AreUnbroken keys naming history u last c
-IsGoodAnswer keys naming history u (Sealed z) Commits = IsGoodCommit keys history z
-IsGoodAnswer keys naming history u stage act = Unit {0}
+abbrev pub IsGoodAnswer : Key → Naming → List Call → User → Stage → Act → Type 0
+IsGoodAnswer pinned naming history u (Declared last c heard) Updates = IsGoodUpdate pinned naming history u last c
+IsGoodAnswer pinned naming history u (Declared last c heard) Hears = AreUnbroken pinned naming history u last c
+IsGoodAnswer pinned naming history u (Sealed z) Commits = IsGoodCommit pinned history z
+IsGoodAnswer pinned naming history u stage act = Unit {0}
 
 -- so is each answer
-abbrev pub AreGood : Keys → Naming → List Move → Type 0
-AreGood keys naming [] = Unit {0}
-AreGood keys naming (m ∷ older) =
-    IsGoodAnswer keys naming (calls older) m.user (stage_of m.user older) m.act × AreGood keys naming older
+abbrev pub AreGood : Key → Naming → List Move → Type 0
+AreGood pinned naming [] = Unit {0}
+AreGood pinned naming (m ∷ older) =
+    IsGoodAnswer pinned naming (calls older) m.user (stage_of m.user older) m.act × AreGood pinned naming older
 
 -- All answers are good, and the line of each accepted view is a beginning of what the server placed.
-pub record IsOneLine (keys : Keys) (naming : Naming) (moves : List Move) : Type 0 where
-  pub answers : AreGood keys naming moves
+pub record IsOneLine (pinned : Key) (naming : Naming) (moves : List Move) : Type 0 where
+  pub answers : AreGood pinned naming moves
   pub lines : (x : View) → Contains (views moves) x
-      → IsBeginning (line (views moves) x) (placed (keys 0) (calls moves))
+      → IsBeginning (line (views moves) x) (placed pinned (calls moves))
 
 -- so it is over each dialogue
 abbrev pub EachDialogueIsOneLine : Type 0
 EachDialogueIsOneLine =
-    (keys : Keys) (naming : Naming) (moves : List Move) → IsNaming keys naming → IsDialogue keys naming moves
-    → IsOneLine keys naming moves
+    (pinned : Key) (naming : Naming) (moves : List Move) → IsNaming pinned naming → IsDialogue pinned naming moves
+    → IsOneLine pinned naming moves

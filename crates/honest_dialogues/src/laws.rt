@@ -1,24 +1,27 @@
 //! Laws of dialogues, for the proofs of callers: functions that do nothing.
 
-ghost use Rattle.honest_dialogues.specs.GoingOn.{EachOperationGoesThrough};
+ghost use Rattle.honest_dialogues.specs.GoingOn.{EachOperationGoesThrough, EachResignedGoesThrough};
 ghost use Rattle.honest_dialogues.specs.OneLine.{EachDialogueIsOneLine};
 ghost use Rattle.honest_dialogues.specs.Reading.{EachReadTableIsNamed};
 ghost use Rattle.honest_dialogues.specs.Signing.{EachSignsOver};
 
 /// Over every dialogue of honest clients with one server, in any order of their moves, with answers that are lost, come
-/// late or come again, and clients that are opened again, each UPDATE is answered with a reply in which its client
-/// finds no rule broken but those on blocks, or its user isn't listed or can go no further; each COMMIT is answered
-/// with success; and the line of each accepted view is a beginning of what the server placed. Of digests it is assumed
-/// that no handle of user 0's names two tables; of signatures nothing.
+/// late or come again, and clients that are opened again, or sign again what was declined, each UPDATE is answered with
+/// a reply in which its client finds no rule broken but those on blocks, or its user isn't listed, has another key last
+/// or can go no further; each COMMIT is answered with success; and the line of each accepted view is a beginning of
+/// what the server placed. Of digests it is assumed that no handle of user 0's names two tables; of signatures nothing,
+/// but that a structure is signed under the key that the table names.
 pub fn clients_stand_in_one_line()
     ensures { EachDialogueIsOneLine }
 {}
 
-/// After each such dialogue the next operation of a user goes through who has none, is listed, and isn't at the limit
-/// of a version: it is declared and sent, its reply heard, and whatever structure an honest client signs over that is
-/// sent, and heard to be committed.
+/// After each such dialogue the next operation of a user goes through who has none, is listed, signs it under its last
+/// key, and isn't at the limit of a version: it is declared and sent, its reply heard, and whatever structure an honest
+/// client signs over that is sent, and heard to be committed.
 pub fn operations_go_through()
-    ensures { EachOperationGoesThrough }
+    ensures next { EachOperationGoesThrough }
+    // Where it was signed under another key, it is declined, and goes through once it is signed again under the last.
+    ensures again { EachResignedGoesThrough }
 {}
 
 /// The structure that a client signs next over an accepted reply has the records of groups that an honest client gives

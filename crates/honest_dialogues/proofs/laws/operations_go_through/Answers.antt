@@ -1,5 +1,8 @@
-use Rattle.honest_dialogues.proofs.GoingOn.{each_goes_through}
+use Rattle.honest_dialogues.proofs.GoingOn.{each_again_goes_through, each_goes_through}
 use Rattle.honest_dialogues.proofs.laws.operations_go_through.Goals as goal
 
-pub returns : goal.returns
-returns c = each_goes_through
+pub returns-clause-next : goal.returns-clause-next
+returns-clause-next c = each_goes_through
+
+pub returns-clause-again : goal.returns-clause-again
+returns-clause-again c = each_again_goes_through
