@@ -15,7 +15,7 @@ use Rattle.client_runs.specs.declared.world.Act.{Act}
 use Rattle.client_runs.specs.declared.world.Act.TheVariants as act
 use Rattle.client_runs.specs.declared.world.Answer.{Answer}
 use Rattle.client_runs.specs.declared.world.Answer.TheVariants as answer
-use Rattle.client_runs.specs.Runs.{client_of, owner, public_key}
+use Rattle.client_runs.specs.Runs.{client_of, owner, pinned}
 use Rattle.client_runs.specs.Told.{call_of}
 use Rattle.client_runs.specs.Carried.{ComesOf, script_keys}
 use Rattle.client_runs.specs.Clients.{client_at, structure_of}
@@ -30,8 +30,9 @@ use Rattle.honest_runs.specs.declared.step.HonestStep.{HonestStep}
 use Rattle.honest_runs.specs.declared.town.Town.{Town}
 use Rattle.honest_runs.specs.HonestRuns.{Exchange, HonestEvent, IsAnswered, IsHandedIn, IsHonestStep, TookPlace, WasTold, carried_out, events, put_with, sent_by, stored}
 use Rattle.honest_runs.specs.Served.{Calls, Comes, ComesLate, HearsAnswer, HearsReply, IsDelivered, IsEventOf, exchange_at, exchanges, laid_by, laid_for}
-use Rattle.honest_runs.specs.Town.{Acknowledges, AreNoted, Arrives, ComesOfReply, ComesTo, Happens, IsDeliveredTo, IsSent, IsTold, LeadsTo, calling, handed_out, hands_in, has_text, wanted_at}
-use Rattle.honest_runs.proofs.Telling.{IsDone, acknowledged, alone_handed, block_handed, does_alone, given_handed, is_done, not_alone, reply_handed, status_handed}
+use Rattle.honest_runs.specs.Town.{Acknowledges, AreNoted, Arrives, ComesOfReply, ComesTo, Happens, IsDeliveredTo, IsSent, IsTold, LeadsTo, calling, handed_out, has_text, may_alone, wanted_at}
+use Rattle.honest_runs.proofs.Declining.{may_do, may_not_do, still_may}
+use Rattle.honest_runs.proofs.Telling.{IsDone, acknowledged, alone_handed, block_handed, does_alone, given_handed, is_done, none_laid, not_alone, reply_handed, status_handed}
 
 -- nothing more is kept of no texts
 pub none_kept : (blocks : List Block) → keeping_all blocks [] ≡ blocks
@@ -84,14 +85,14 @@ took_place run n x is = among_run run x (found_among (exchanges run) n x is)
 -- ---- a step
 
 -- what is a step in this town is one after each run that leads to it
-step_after : {A : Type 0} (old : Town A) (h : HonestEvent) → IfSome h.exchange (λ x. sent_by (client_at old.clients h.user) x.call.kind ≡ Some x.call.text) → IfSome h.exchange (IsAnswered (public_key script_keys 0) old.server)
+step_after : {A : Type 0} (old : Town A) (h : HonestEvent) → IfSome h.exchange (λ x. sent_by (client_at old.clients h.user) x.call.kind ≡ Some x.call.text) → IfSome h.exchange (IsAnswered (pinned script_keys) old.server)
     → IfSome h.step (λ s. IsStep (owner script_keys h.user) (client_at old.clients h.user) s.call s.after × IsSound s.after) → ((older : List HonestEvent) → LeadsTo older old → IfSome h.step (λ s. IsHandedIn (h ∷ older) (client_at old.clients h.user) (held old.store) s.call))
     → IfSome h.step (λ s. h.put ≡ put_with s.call) → (older : List HonestEvent) → LeadsTo older old → IsHonestStep script_keys older h
 step_after old h sent answered taken handed put older l =
     let same : client_at old.clients h.user ≡ client_of h.user (events older) = sym (l.clients h.user) in
     record {
       sent = subst (λ (c : Client). IfSome h.exchange (λ x. sent_by c x.call.kind ≡ Some x.call.text)) same sent;
-      answered = subst (λ (cs : List Call). IfSome h.exchange (IsAnswered (public_key script_keys 0) cs)) (sym l.calls) answered;
+      answered = subst (λ (cs : List Call). IfSome h.exchange (IsAnswered (pinned script_keys) cs)) (sym l.calls) answered;
       taken = subst (λ (c : Client). IfSome h.step (λ s. IsStep (owner script_keys h.user) c s.call s.after × IsSound s.after)) same taken;
       handed_in = subst (λ (c : Client). IfSome h.step (λ s. IsHandedIn (h ∷ older) c (held (stored older)) s.call)) same
           (subst (λ (b : List Block). IfSome h.step (λ s. IsHandedIn (h ∷ older) (client_at old.clients h.user) (held b) s.call)) (sym l.blocks) (handed older l));
@@ -107,22 +108,22 @@ module _ {A : Type 0} (todo : HonestStep A) (old new : Town A) where
 
   -- what comes of a step comes of it after each run that leads to the town
   abbrev ComesThen : HonestEvent → Answer A → Type 0
-  ComesThen h a = (older : List HonestEvent) → LeadsTo older old → Comes older now todo.act h a
+  ComesThen h a = (older : List HonestEvent) → LeadsTo older old → Comes older todo.user now todo.act h a
 
   event_of_step : (h : HonestEvent) (a : Answer A) → h.user ≡ todo.user → ComesThen h a → (h.step ≡ None → h.put ≡ laid_for todo.act) → (older : List HonestEvent) → LeadsTo older old → IsEventOf older todo a h
   event_of_step h a user comes laid older l = record {
     user = user;
-    comes = subst (λ (c : Client). Comes older c todo.act h a) (sym (l.clients todo.user)) (comes older l);
+    comes = subst (λ (c : Client). Comes older todo.user c todo.act h a) (sym (l.clients todo.user)) (comes older l);
     laid = laid;
   }
 
-  module _ (x : Option Exchange) (sent : IfSome x (λ y. sent_by now y.call.kind ≡ Some y.call.text)) (answered : IfSome x (IsAnswered (public_key script_keys 0) old.server)) (a : Answer A)
+  module _ (x : Option Exchange) (sent : IfSome x (λ y. sent_by now y.call.kind ≡ Some y.call.text)) (answered : IfSome x (IsAnswered (pinned script_keys) old.server)) (a : Answer A)
       (others : Others) (calls : new.server ≡ option_to_list (option_and_then carried_out x) ++ old.server) (noted : AreNoted new.clients new.wanted.items) (exchanges : new.exchanges ≡ old.exchanges) where
     -- what the client was told to do
     abbrev event_by : List Bytes → Option StepTaken → HonestEvent
     event_by put step = record { user = todo.user; put = put; exchange = x; step = step }
 
-    happens_by : (t : Act A) (told : Answer A) (d : IsDone (owner script_keys todo.user) now t told (client_at new.clients todo.user))
+    happens_by : (t : Act A) (told : Answer A) (d : IsDone todo.user now t told (client_at new.clients todo.user))
         → ((older : List HonestEvent) → LeadsTo older old → IfSome d.step (λ s. IsHandedIn (event_by (laid_by t ++ handed_out told) d.step ∷ older) now (held old.store) s.call))
         → ComesThen (event_by (laid_by t ++ handed_out told) d.step) a
         → (d.step ≡ None → laid_by t ++ handed_out told ≡ laid_for todo.act)
@@ -159,8 +160,8 @@ module _ {A : Type 0} (todo : HonestStep A) (old new : Town A) where
     }
 
   -- what comes of a step comes of it by another name
-  comes_as : (h : HonestEvent) (a : Answer A) (what : HonestAct A) → todo.act ≡ what → ((older : List HonestEvent) → LeadsTo older old → Comes older now what h a) → ComesThen h a
-  comes_as h a what is comes older l = subst (λ (w : HonestAct A). Comes older now w h a) (sym is) (comes older l)
+  comes_as : (h : HonestEvent) (a : Answer A) (what : HonestAct A) → todo.act ≡ what → ((older : List HonestEvent) → LeadsTo older old → Comes older todo.user now what h a) → ComesThen h a
+  comes_as h a what is comes older l = subst (λ (w : HonestAct A). Comes older todo.user now w h a) (sym is) (comes older l)
 
   laid_as : (texts : List Bytes) (what : HonestAct A) → todo.act ≡ what → texts ≡ laid_for what → texts ≡ laid_for todo.act
   laid_as texts what is laid = laid ∙ ap laid_for (sym is)
@@ -168,33 +169,35 @@ module _ {A : Type 0} (todo : HonestStep A) (old new : Town A) where
 -- ---- alone
 
 module _ {A : Type 0} (todo : HonestStep A) (old new : Town A) (t : Act A) (is : todo.act ≡ honest.Alone t) where
-  -- it would hand something in
-  pub refused : hands_in t ≡ true → new ≡ old → AreNoted old.clients old.wanted.items → Happens todo answer.NotTaken None old new
-  refused hands same noted =
-      let left = not_alone (client_at old.clients todo.user) t hands in
+  -- it may not do it
+  pub refused : may_alone old.exchanges.items (client_at old.clients todo.user) t ≡ false → new ≡ old → AreNoted old.clients old.wanted.items → Happens todo answer.NotTaken None old new
+  refused cannot same noted =
+      let client : Client = client_at old.clients todo.user in
       subst (λ (n : Town A). Happens todo answer.NotTaken None old n) (sym same)
       (untold todo old old None tt tt answer.NotTaken (λ v other. refl) refl noted refl
-      (comes_as todo old old (record { user = todo.user; put = []; exchange = None; step = None }) answer.NotTaken (honest.Alone t) is (λ older l. (refl, left.0)))
-      (laid_as todo old old [] (honest.Alone t) is (sym left.1)) refl refl)
+      (comes_as todo old old (record { user = todo.user; put = []; exchange = None; step = None }) answer.NotTaken (honest.Alone t) is
+      (λ older l. (refl, not_alone older todo.user client t (may_not_do older old.exchanges.items l.answers client t cannot))))
+      (laid_as todo old old [] (honest.Alone t) is (sym (none_laid old.exchanges.items client t cannot))) refl refl)
 
-  pub alone : (mid : Town A) (a : Answer A) → hands_in t ≡ false → mid.clients ≡ old.clients → mid.server ≡ old.server → mid.store ≡ keeping_all old.store (laid_by t)
+  pub alone : (mid : Town A) (a : Answer A) → may_alone old.exchanges.items (client_at old.clients todo.user) t ≡ true → mid.clients ≡ old.clients → mid.server ≡ old.server → mid.store ≡ keeping_all old.store (laid_by t)
       → mid.exchanges ≡ old.exchanges → ComesTo todo.user t a mid new → IsTold todo.user a mid new → Happens todo a None old new
   alone mid a lone same_clients same_server laid same_exchanges comes told =
       let u = todo.user in
-      let o : Owner = owner script_keys u in
       let client : Client = client_at old.clients u in
       let same : client_at mid.clients u ≡ client = ap (λ (cs : List Client). client_at cs u) same_clients in
-      let d : IsDone o client t a (client_at new.clients u) = subst (λ (c : Client). IsDone o c t a (client_at new.clients u)) same (is_done o (client_at mid.clients u) t (client_at new.clients u) a comes) in
+      let d : IsDone u client t a (client_at new.clients u) = subst (λ (c : Client). IsDone u c t a (client_at new.clients u)) same (is_done u (client_at mid.clients u) t (client_at new.clients u) a comes) in
       happens_by todo old new None tt tt a (λ v other. told.others v other ∙ ap (λ (cs : List Client). client_at cs v) same_clients) (told.server ∙ same_server) told.noted (told.exchanges ∙ same_exchanges)
       t a d
       (λ older l. let run : List HonestEvent = record { user = u; put = laid_by t ++ handed_out a; exchange = None; step = d.step } ∷ older in
-      if_some d.step (λ s. call_of t a ≡ Some s.call) (λ s. IsHandedIn run client (held old.store) s.call) d.is_call (λ s call. alone_handed run client (held old.store) t a s.call lone call))
-      (comes_as todo old new (record { user = u; put = laid_by t ++ handed_out a; exchange = None; step = d.step }) a (honest.Alone t) is (λ older l. (refl, does_alone client t d.step a lone d.does)))
+      let may = still_may older client t u (laid_by t ++ handed_out a) d.step (may_do older old.exchanges.items l.answers client t lone) in
+      if_some d.step (λ s. call_of t a ≡ Some s.call) (λ s. IsHandedIn run client (held old.store) s.call) d.is_call (λ s call. alone_handed run client (held old.store) t a s.call may call))
+      (comes_as todo old new (record { user = u; put = laid_by t ++ handed_out a; exchange = None; step = d.step }) a (honest.Alone t) is
+      (λ older l. (refl, does_alone older u client t d.step a (may_do older old.exchanges.items l.answers client t lone) d.does)))
       (λ w. laid_as todo old new (laid_by t ++ handed_out a) (honest.Alone t) is (ap (λ (xs : List Bytes). laid_by t ++ xs) (d.none w) ∙ append-nil (laid_by t)))
       (told.stored ∙ ap (λ (b : List Block). keeping_all b (handed_out a)) laid ∙ sym (kept_after old.store (laid_by t) (handed_out a)))
 
   -- whatever the client answers
-  pub alone_told : {E : Type 0} (mid : Town A) (r : Result (Answer A) E) → hands_in t ≡ false → mid.clients ≡ old.clients → mid.server ≡ old.server
+  pub alone_told : {E : Type 0} (mid : Town A) (r : Result (Answer A) E) → may_alone old.exchanges.items (client_at old.clients todo.user) t ≡ true → mid.clients ≡ old.clients → mid.server ≡ old.server
       → mid.store ≡ keeping_all old.store (laid_by t) → mid.exchanges ≡ old.exchanges → IfOk r (λ a. ComesTo todo.user t a mid new) → IfOk r (λ a. IsTold todo.user a mid new) → IfOk r (λ a. Happens todo a None old new)
   alone_told mid (Ok a) lone same_clients same_server laid same_exchanges comes told = alone mid a lone same_clients same_server laid same_exchanges comes told
   alone_told mid (Err e) lone same_clients same_server laid same_exchanges comes told = tt
@@ -209,7 +212,7 @@ module _ {A : Type 0} (todo : HonestStep A) (old new : Town A) (noted : AreNoted
       → ComesTo todo.user (act.Block block) a old new → IsTold todo.user a old new → Happens todo a None old new
   block_happens a is same comes told =
       let o : Owner = owner script_keys todo.user in
-      let d : IsDone o client_now (act.Block block) a (client_at new.clients todo.user) = is_done o client_now (act.Block block) (client_at new.clients todo.user) a comes in
+      let d : IsDone todo.user client_now (act.Block block) a (client_at new.clients todo.user) = is_done todo.user client_now (act.Block block) (client_at new.clients todo.user) a comes in
       happens_by todo old new None tt tt a told.others told.server told.noted told.exchanges (act.Block block) a d
       (λ older l. let run : List HonestEvent = record { user = todo.user; put = handed_out a; exchange = None; step = d.step } ∷ older in
       if_both d.step (λ s. call_of (act.Block block) a ≡ Some s.call) (λ s. IsStep o client_now s.call s.after × IsSound s.after) (λ s. IsHandedIn run client_now (held old.store) s.call) d.is_call d.taken
@@ -222,7 +225,7 @@ module _ {A : Type 0} (todo : HonestStep A) (old new : Town A) (noted : AreNoted
       → ComesTo todo.user (act.Give block) a old new → IsTold todo.user a old new → Happens todo a None old new
   give_happens a is same comes told =
       let o : Owner = owner script_keys todo.user in
-      let d : IsDone o client_now (act.Give block) a (client_at new.clients todo.user) = is_done o client_now (act.Give block) (client_at new.clients todo.user) a comes in
+      let d : IsDone todo.user client_now (act.Give block) a (client_at new.clients todo.user) = is_done todo.user client_now (act.Give block) (client_at new.clients todo.user) a comes in
       happens_by todo old new None tt tt a told.others told.server told.noted told.exchanges (act.Give block) a d
       (λ older l. let run : List HonestEvent = record { user = todo.user; put = handed_out a; exchange = None; step = d.step } ∷ older in
       if_both d.step (λ s. call_of (act.Give block) a ≡ Some s.call) (λ s. IsStep o client_now s.call s.after × IsSound s.after) (λ s. IsHandedIn run client_now (held old.store) s.call) d.is_call d.taken
@@ -265,7 +268,7 @@ module _ {A : Type 0} (todo : HonestStep A) (old new : Town A) where
     nothing_laid Commit = refl
 
     -- what comes of a call comes of the step
-    call_comes : (older : List HonestEvent) (h : HonestEvent) (a : Answer A) (k : CallKind) → Calls caller k how h a → Comes older caller (calling k how) h a
+    call_comes : (older : List HonestEvent) (h : HonestEvent) (a : Answer A) (k : CallKind) → Calls todo.user caller k how h a → Comes older todo.user caller (calling k how) h a
     call_comes older h a Update c = c
     call_comes older h a Commit c = c
 
@@ -280,12 +283,12 @@ module _ {A : Type 0} (todo : HonestStep A) (old new : Town A) where
 
   -- The answer to the text that the client has now, which was given in this step, in which this call was made, or before.
   module _ (mid : Town A) (same : mid.clients ≡ old.clients) (same_store : mid.store ≡ old.store) (same_exchanges : mid.exchanges ≡ old.exchanges) (call : Option Exchange)
-      (sent : IfSome call (λ y. sent_by caller y.call.kind ≡ Some y.call.text)) (answered : IfSome call (IsAnswered (public_key script_keys 0) old.server)) (calls : mid.server ≡ option_to_list (option_and_then carried_out call) ++ old.server)
+      (sent : IfSome call (λ y. sent_by caller y.call.kind ≡ Some y.call.text)) (answered : IfSome call (IsAnswered (pinned script_keys) old.server)) (calls : mid.server ≡ option_to_list (option_and_then carried_out call) ++ old.server)
       (x : Exchange) (own : sent_by caller x.call.kind ≡ Some x.call.text) (place : (older : List HonestEvent) → LeadsTo older old → (call ≡ Some x) ⊎ TookPlace older x)
       (laid : [] ≡ laid_for todo.act) where
     -- what comes of it, where this comes of the client
     abbrev ComesSo : Answer A → Type 0
-    ComesSo a = (step : Option StepTaken) (put : List Bytes) → HearsAnswer caller x.call.kind x.answer step a → ComesThen todo old new (record { user = todo.user; put = put; exchange = call; step = step }) a
+    ComesSo a = (step : Option StepTaken) (put : List Bytes) → HearsAnswer todo.user caller x.call.kind x.answer step a → ComesThen todo old new (record { user = todo.user; put = put; exchange = call; step = step }) a
 
     told_so : (older : List HonestEvent) → LeadsTo older old → (put : List Bytes) (step : Option StepTaken) (kind : CallKind) (given : ServerAnswer) → x.call.kind ≡ kind → x.answer ≡ given → WasTold (record { user = todo.user; put = put; exchange = call; step = step } ∷ older) caller kind given
     told_so older l put step kind given is_kind is_answer =
@@ -297,8 +300,8 @@ module _ {A : Type 0} (todo : HonestStep A) (old new : Town A) where
     before_now told t v other = t.others v other ∙ ap (λ (cs : List Client). client_at cs v) same
 
     -- what comes of the client that is told so
-    done_by : (t : Act A) (told : Answer A) → ComesTo todo.user t told mid new → IsDone o caller t told after
-    done_by t told comes = is_done o caller t after told (subst (λ (c : Client). ComesOf o c t told after) (ap (λ (cs : List Client). client_at cs todo.user) same) comes)
+    done_by : (t : Act A) (told : Answer A) → ComesTo todo.user t told mid new → IsDone todo.user caller t told after
+    done_by t told comes = is_done todo.user caller t after told (subst (λ (c : Client). ComesOf o c t told after) (ap (λ (cs : List Client). client_at cs todo.user) same) comes)
 
     -- a reply, or a status of which nothing is handed in
     heard : (status : Status) (payload : Bytes) → x.call.kind ≡ Update → x.answer ≡ record { status = status; payload = payload }
@@ -311,12 +314,12 @@ module _ {A : Type 0} (todo : HonestStep A) (old new : Town A) where
         if_some d.step (λ st. call_of reply told ≡ Some st.call) (λ st. IsHandedIn run caller (held old.store) st.call) d.is_call
         (λ st call_is. reply_handed run caller (held old.store) h.0 told st.call (λ r. subst (λ (b : Bytes). WasTold run caller Update (record { status = status.Ok; payload = b })) (sym h.1)
         (told_so older l (handed_out told) d.step Update (record { status = status.Ok; payload = payload }) is_kind is_answer)) call_is))
-        (comes d.step (handed_out told) (subst (λ (k : CallKind). HearsAnswer caller k x.answer d.step told) (sym is_kind) (subst (λ (a : ServerAnswer). HearsReply caller a.status a.payload d.step told) (sym is_answer) (h.0, h.1, d.does))))
+        (comes d.step (handed_out told) (subst (λ (k : CallKind). HearsAnswer todo.user caller k x.answer d.step told) (sym is_kind) (subst (λ (a : ServerAnswer). HearsReply todo.user caller a.status a.payload d.step told) (sym is_answer) (h.0, h.1, d.does))))
         (λ w. d.none w ∙ laid)
         (t.stored ∙ ap (λ (b : List Block). keeping_all b (handed_out told)) same_store)
     heard other payload is_kind is_answer told comes h t =
         untold todo old new call sent answered told (before_now told t) (t.server ∙ calls) t.noted (t.exchanges ∙ same_exchanges)
-        (comes None [] (subst (λ (k : CallKind). HearsAnswer caller k x.answer None told) (sym is_kind) (subst (λ (a : ServerAnswer). HearsReply caller a.status a.payload None told) (sym is_answer) (refl, h.0))))
+        (comes None [] (subst (λ (k : CallKind). HearsAnswer todo.user caller k x.answer None told) (sym is_kind) (subst (λ (a : ServerAnswer). HearsReply todo.user caller a.status a.payload None told) (sym is_answer) (refl, h.0))))
         laid (h.1 ∙ ap (λ (cs : List Client). client_at cs todo.user) same)
         (t.stored ∙ ap (λ (a : Answer A). keeping_all mid.store (handed_out a)) h.0 ∙ none_kept mid.store ∙ same_store)
 
@@ -327,13 +330,13 @@ module _ {A : Type 0} (todo : HonestStep A) (old new : Town A) where
         let of_caller : ComesOf o caller given k.told after = subst (λ (c : Client). ComesOf o c given k.told after) (ap (λ (cs : List Client). client_at cs todo.user) same) k.comes in
         let own_structure : structure_of caller ≡ Some x.call.text = subst (λ (kind : CallKind). sent_by caller kind ≡ Some x.call.text) is_kind own in
         let committed : k.told ≡ answer.Committed = acknowledged o caller after x.answer.status k.told x.call.text own_structure of_caller in
-        let d : IsDone o caller given answer.Committed after = subst (λ (t : Answer A). IsDone o caller given t after) committed (is_done o caller given after k.told of_caller) in
+        let d : IsDone todo.user caller given answer.Committed after = subst (λ (t : Answer A). IsDone todo.user caller given t after) committed (is_done todo.user caller given after k.told of_caller) in
         let t = k.is_told in
         happens_by todo old new call sent answered said (before_now k.told t) (t.server ∙ calls) t.noted (t.exchanges ∙ same_exchanges) given answer.Committed d
         (λ older l. let run : List HonestEvent = record { user = todo.user; put = []; exchange = call; step = d.step } ∷ older in
         if_some d.step (λ st. call_of given answer.Committed ≡ Some st.call) (λ st. IsHandedIn run caller (held old.store) st.call) d.is_call
         (λ st call_is. status_handed run caller (held old.store) {A = A} x.answer.status answer.Committed st.call (x.answer.payload, told_so older l [] d.step Commit x.answer is_kind refl) call_is))
-        (comes d.step [] (subst (λ (kind : CallKind). HearsAnswer caller kind x.answer d.step said) (sym is_kind) (d.does, k.is)))
+        (comes d.step [] (subst (λ (kind : CallKind). HearsAnswer todo.user caller kind x.answer d.step said) (sym is_kind) (d.does, k.is)))
         (λ w. laid)
         (t.stored ∙ ap (λ (y : Answer A). keeping_all mid.store (handed_out y)) committed ∙ none_kept mid.store ∙ same_store ∙ sym (none_kept old.store))
 
@@ -354,12 +357,12 @@ module _ {A : Type 0} (todo : HonestStep A) (old new : Town A) where
         (subst (λ (n : Town A). Happens todo (answer.Served x.answer.status) (Some x) old n) (sym h.1)
         (untold todo old mid (Some x) s.sent s.answered (answer.Served x.answer.status) (λ v other. refl) s.history noted refl
         (comes_as todo old mid (alone_event (Some x)) (answer.Served x.answer.status) (calling kind how) is
-        (λ older l. call_comes kind how is older (alone_event (Some x)) (answer.Served x.answer.status) kind (s.made, subst (λ (e : Delivery). IsDelivered {A = A} caller e x None (answer.Served x.answer.status)) (sym at) (refl, refl))))
+        (λ older l. call_comes kind how is older (alone_event (Some x)) (answer.Served x.answer.status) kind (s.made, subst (λ (e : Delivery). IsDelivered {A = A} todo.user caller e x None (answer.Served x.answer.status)) (sym at) (refl, refl))))
         (laid_as todo old mid [] (calling kind how) is (nothing_laid kind how is kind)) refl refl))
     delivered a delivery.Arrives at h =
         arrives mid refl refl refl (Some x) s.sent s.answered s.history x s.sent (λ older l. inl refl) (laid_as todo old new [] (calling kind how) is (nothing_laid kind how is kind)) x.call.kind refl a
         (λ step put hears. comes_as todo old new (record { user = todo.user; put = put; exchange = Some x; step = step }) a (calling kind how) is
-        (λ older l. call_comes kind how is older (record { user = todo.user; put = put; exchange = Some x; step = step }) a kind (s.made, subst (λ (e : Delivery). IsDelivered caller e x step a) (sym at) hears))) h
+        (λ older l. call_comes kind how is older (record { user = todo.user; put = put; exchange = Some x; step = step }) a kind (s.made, subst (λ (e : Delivery). IsDelivered todo.user caller e x step a) (sym at) hears))) h
 
   -- ---- a late answer
 
@@ -368,25 +371,25 @@ module _ {A : Type 0} (todo : HonestStep A) (old new : Town A) where
     in_run : (older : List HonestEvent) → LeadsTo older old → exchange_at (exchanges older) n ≡ found
     in_run older l = ap (λ (xs : List (Option Exchange)). exchange_at xs n) (l.answers ∙ sym same_seen) ∙ sym at
 
-    late_comes : (step : Option StepTaken) (put : List Bytes) (a : Answer A) → ComesLate caller found step a → ComesThen todo old new (record { user = todo.user; put = put; exchange = None; step = step }) a
+    late_comes : (step : Option StepTaken) (put : List Bytes) (a : Answer A) → ComesLate todo.user caller found step a → ComesThen todo old new (record { user = todo.user; put = put; exchange = None; step = step }) a
     late_comes step put a comes =
         comes_as todo old new (record { user = todo.user; put = put; exchange = None; step = step }) a (honest.Late n) is
-        (λ older l. (refl, subst (λ (o : Option Exchange). ComesLate caller o step a) (sym (in_run older l)) comes))
+        (λ older l. (refl, subst (λ (o : Option Exchange). ComesLate todo.user caller o step a) (sym (in_run older l)) comes))
 
-    none_late : new ≡ old → AreNoted old.clients old.wanted.items → ComesLate {A = A} caller found None answer.NotTaken → Happens todo answer.NotTaken None old new
+    none_late : new ≡ old → AreNoted old.clients old.wanted.items → ComesLate {A = A} todo.user caller found None answer.NotTaken → Happens todo answer.NotTaken None old new
     none_late same noted comes =
         untold todo old new None tt tt answer.NotTaken (λ v other. ap (λ (t : Town A). client_at t.clients v) same) (ap (λ (t : Town A). t.server) same) (subst (λ (t : Town A). AreNoted t.clients t.wanted.items) (sym same) noted)
         (ap (λ (t : Town A). t.exchanges) same) (late_comes None [] answer.NotTaken comes) (laid_as todo old new [] (honest.Late n) is refl) (ap (λ (t : Town A). client_at t.clients todo.user) same) (ap (λ (t : Town A). t.store) same)
 
     -- nothing was exchanged in that step
     pub not_exchanged : found ≡ None → new ≡ old → AreNoted old.clients old.wanted.items → Happens todo answer.NotTaken None old new
-    not_exchanged none same noted = none_late same noted (subst (λ (o : Option Exchange). ComesLate {A = A} caller o None answer.NotTaken) (sym none) (refl, refl))
+    not_exchanged none same noted = none_late same noted (subst (λ (o : Option Exchange). ComesLate {A = A} todo.user caller o None answer.NotTaken) (sym none) (refl, refl))
 
     module _ (x : Exchange) (some : found ≡ Some x) where
       -- it was another text
       pub not_own : (own : Bool) → own ≡ has_text (sent_by caller x.call.kind) x.call.text → own ≡ false → new ≡ old → AreNoted old.clients old.wanted.items → Happens todo answer.NotTaken None old new
       not_own own told other same noted =
-          none_late same noted (subst (λ (o : Option Exchange). ComesLate {A = A} caller o None answer.NotTaken) (sym some) (inr (λ sent. true≢false (sym (is_own sent) ∙ sym told ∙ other), (refl, refl))))
+          none_late same noted (subst (λ (o : Option Exchange). ComesLate {A = A} todo.user caller o None answer.NotTaken) (sym some) (inr (λ sent. true≢false (sym (is_own sent) ∙ sym told ∙ other), (refl, refl))))
         where
           is_own : sent_by caller x.call.kind ≡ Some x.call.text → has_text (sent_by caller x.call.kind) x.call.text ≡ true
           is_own sent = ap (λ (o : Option Bytes). has_text o x.call.text) sent ∙ (bytes_eq-Decides x.call.text x.call.text).1 refl
@@ -400,7 +403,7 @@ module _ {A : Type 0} (todo : HonestStep A) (old new : Town A) where
       arrives_late own told is_true (Ok a) h =
           let is_own = of_own (sent_by caller x.call.kind) (sym told ∙ is_true) in
           arrives old refl refl refl None tt tt refl x is_own (λ older l. inr (took_place older n x (in_run older l ∙ some))) (laid_as todo old new [] (honest.Late n) is refl) x.call.kind refl a
-          (λ step put hears. late_comes step put a (subst (λ (o : Option Exchange). ComesLate caller o step a) (sym some) (inl (is_own, hears)))) h
+          (λ step put hears. late_comes step put a (subst (λ (o : Option Exchange). ComesLate todo.user caller o step a) (sym some) (inl (is_own, hears)))) h
 
 -- ---- a reply
 

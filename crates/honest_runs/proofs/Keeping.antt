@@ -73,7 +73,7 @@ noted_anew {A} clients new wanted after u t a small old is comes others =
       each = λ v. elim (v == u) as (λ b. (v == u) ≡ b → IsNoted (client_at new v) (wanted_at (set wanted u w) v)) [
         | true ↦ (λ eq. subst (λ (n : ℕ). IsNoted (client_at new n) (wanted_at (set wanted u w) n)) (sym (eqb-true v u eq))
             (subst (λ (x : Wanted). IsNoted (client_at new u) x) (sym (get_or-set_same wanted u w nothing within))
-            (is_noted (owner script_keys u) (client_at clients u) t (client_at new u) (wanted_at wanted u) (old.each u) a comes)))
+            (is_noted u (client_at clients u) t (client_at new u) (wanted_at wanted u) (old.each u) a comes)))
         | false ↦ (λ eq. subst (λ (x : Wanted). IsNoted (client_at new v) x) (sym (get_or-set_other wanted u v w nothing (eqb-false v u eq)))
             (subst (λ (c : Client). IsNoted c (wanted_at wanted v)) (sym (others v (eqb-false v u eq))) (old.each v)))
       ] refl;

@@ -1,5 +1,6 @@
 pub mod Events
 pub mod Noting
+pub mod Declining
 pub mod Telling
 pub mod Happening
 pub mod StepByStep

@@ -1,5 +1,5 @@
 -- What clients ask for is noted.
-use Rattle.std.proofs.Common.{◌≡◌, List, Option, Some, None, Ok, Err, Result, IfSome, IsSome, IsSomeAnd, option_and_then, option_map, refl, sym, ap, subst, inl, inr}
+use Rattle.std.proofs.Common.{◌≡◌, ℕ, List, Option, Some, None, Ok, Err, Result, IfSome, IsSome, IsSomeAnd, option_and_then, option_map, refl, sym, ap, subst, inl, inr}
 use Rattle.layout.specs.Types.{Bytes, Digest}
 use Rattle.leaf_ledger.specs.Ledger.{LeafNumber}
 use Rattle.update_cert.specs.Change.{Change}
@@ -19,7 +19,7 @@ use Rattle.client_verify.specs.declared.view.Looking.{Looking}
 use Rattle.client_verify.specs.State.{AcceptedView, Checked, Reading, State, Writing, asked_of, holding, on, over, signed_over, signed_text, signing_key}
 use Rattle.client_verify.specs.Judged.{AsksOrAccepts, GoesOn, Handed, Judged, Taken}
 use Rattle.client_verify.specs.Looked.{Given, Looked}
-use Rattle.client_steps.specs.Steps.{Asks, Begins, Caches, Call, Client, Closed, Closes, Commits, Crashes, FromOpen, Gives, HasBegun, HasCommitted, HasGiven, HasHeard, HasLooked, HasSigned, HasTaken, Hears, IsOpened, IsStep, Looks, Open, Opens, Owner, Parts, Sees, Signs, Takes}
+use Rattle.client_steps.specs.Steps.{Asks, Begins, Caches, Call, Client, Closed, Closes, Commits, Crashes, FromOpen, Gains, Gives, HasBegun, HasCommitted, HasGiven, HasHeard, HasLooked, HasResigned, HasSigned, HasTaken, Hears, IsOpened, IsStep, Looks, Open, Opens, Owner, Parts, Resigns, Sees, Signs, Takes}
 use Rattle.client_runs.proofs.Lowering.{if_ready, with_ready}
 use Rattle.honest_runs.specs.declared.wanted.Wanted.{Wanted}
 use Rattle.honest_runs.specs.Town.{IsNoted}
@@ -65,6 +65,11 @@ module _ (w : Wanted) where
     begins : (changes : List (Change Digest)) (laid : List Bytes) (answer : Result Bytes ClientError) → HasBegun s changes laid answer new → IsNoted (Open new) w
     begins changes laid (Ok text) b = unasked (ap (λ (n : State). n.checked) b.declared.2) (ap (λ (n : State). n.view) b.declared.2)
     begins changes laid (Err e) b =
+        unless_device e (λ is. let left = b.fails (ap (λ (x : ClientError). Err x) is) in unasked (ap (λ (n : State). n.checked) left) (ap (λ (n : State). n.view) left)) b.err
+
+    resigns : (n : ℕ) (answer : Result Bytes ClientError) → HasResigned s n answer new → IsNoted (Open new) w
+    resigns n (Ok text) b = unasked (ap (λ (n : State). n.checked) b.resigned.2) (ap (λ (n : State). n.view) b.resigned.2)
+    resigns n (Err e) b =
         unless_device e (λ is. let left = b.fails (ap (λ (x : ClientError). Err x) is) in unasked (ap (λ (n : State). n.checked) left) (ap (λ (n : State). n.view) left)) b.err
 
     signs : (answer : Result Bytes ClientError) → HasSigned s answer new → IsNoted (Open new) w
@@ -249,6 +254,7 @@ module _ (w : Wanted) where
   from_open s Closes (Closed p) old b = (tt, tt)
   from_open s Crashes (Closed p) old b = (tt, tt)
   from_open s (Begins changes laid answer) (Open new) old b = begins w s new old changes laid answer b
+  from_open s (Resigns n answer) (Open new) old b = resigns w s new old n answer b
   from_open s (Hears text answer) (Open new) old b = noted_as (Open new) (after_reply w answer) (asking w (Hears text answer)) (reply_asking w text answer) (hears w s text answer new old b)
   from_open s (Takes block answer) (Open new) old b = noted_as (Open new) (after_reply w answer) (asking w (Takes block answer)) (block_asking w block answer) (takes w s block answer new old b)
   from_open s (Signs answer) (Open new) old b = signs w s new old answer b
@@ -266,5 +272,6 @@ module _ (w : Wanted) where
   noted_after o (Open s) call after old b = from_open s call after old b
   noted_after o (Closed p) (Opens (Ok x)) (Open new) old b = opened_nothing o p new b
   noted_after o (Closed p) (Opens (Err e)) (Closed q) old b = (tt, tt)
+  noted_after o (Closed p) Gains (Closed q) old b = (tt, tt)
   noted_after o (Closed p) Crashes (Closed q) old b = (tt, tt)
   noted_after o (Closed p) call after old b = absurd b

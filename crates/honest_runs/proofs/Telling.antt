@@ -1,9 +1,9 @@
 -- What an answer tells of the call that it is one to, and what comes of a client that is told to do something.
-use Rattle.std.proofs.Common.{◌≡◌, ℕ, true, false, List, [], ◌∷◌, ◌++◌, Option, Some, None, Ok, Err, Result, IfSome, IsSome, IsSomeAnd, map, option_map, option_and_then, refl, sym, ap, subst, ◌∙◌}
+use Rattle.std.proofs.Common.{◌≡◌, ℕ, true, false, List, [], ◌∷◌, ◌++◌, Option, Some, None, Ok, Err, Result, IfSome, IsSome, IsSomeAnd, map, option_map, option_and_then, refl, sym, ap, subst, ◌∙◌, inl, inr}
 use Rattle.std.specs.Vec.{vec_items}
 use Rattle.std.specs.declared.vec.Vec.{Vec}
 use Rattle.std.proofs.lemmas.List.{append-nil}
-use Rattle.layout.specs.Types.{Bytes, Digest}
+use Rattle.layout.specs.Types.{Bytes, Digest, User}
 use Rattle.tree_parts.specs.Blocks.{Blocks}
 use Rattle.wire.specs.declared.kinds.Status.{Status}
 use Rattle.client_releases.specs.declared.error.ClientError.{ClientError}
@@ -15,7 +15,7 @@ use Rattle.client_verify.specs.declared.step.Step.{Step}
 use Rattle.client_verify.specs.declared.step.Step.TheVariants as step
 use Rattle.client_verify.specs.State.{AcceptedView, Checked, asked_of}
 use Rattle.client_verify.specs.declared.view.Looking.{Looking}
-use Rattle.client_steps.specs.Steps.{Asks, Begins, Caches, Call, Client, Closed, Closes, Commits, Crashes, Gives, Hears, IsSound, IsStep, Looks, Open, Opens, Owner, Sees, Signs, StepTaken, Takes}
+use Rattle.client_steps.specs.Steps.{Asks, Begins, Caches, Call, Client, Closed, Closes, Commits, Crashes, Gains, Gives, Hears, IsSound, IsStep, Looks, Open, Opens, Owner, Resigns, Sees, Signs, StepTaken, Takes}
 use Rattle.client_steps.specs.Anywhere.{asked, bytes_anywhere, on_ok, seen}
 use Rattle.client_tree.specs.declared.questions.Question.{Question}
 use Rattle.client_tree.specs.declared.questions.Question.TheVariants as question
@@ -25,13 +25,15 @@ use Rattle.client_runs.specs.declared.world.Act.TheVariants as act
 use Rattle.client_runs.specs.declared.world.Answer.{Answer}
 use Rattle.client_runs.specs.declared.world.Answer.TheVariants as answer
 use Rattle.client_runs.specs.Clients.{structure_in, structure_of}
+use Rattle.client_runs.specs.Runs.{owner}
 use Rattle.client_runs.specs.Told.{call_of, texts_in}
 use Rattle.client_runs.specs.NotTaken.{CantBeTaken}
-use Rattle.client_runs.specs.Carried.{ComesOf, IsTaken}
+use Rattle.client_runs.specs.Carried.{ComesOf, IsTaken, script_keys}
 use Rattle.honest_runs.specs.declared.wanted.Wanted.{Wanted}
-use Rattle.honest_runs.specs.HonestRuns.{HonestEvent, IsFound, IsHandedIn, looked_for_by, put_with, wanted_by}
+use Rattle.honest_runs.specs.HonestRuns.{Exchange, HonestEvent, IsFound, IsHandedIn, looked_for_by, put_with, wanted_by}
 use Rattle.honest_runs.specs.Served.{Does, DoesAlone, laid_by}
-use Rattle.honest_runs.specs.Town.{IsNoted, client_after, handed_out, hands_in, noting}
+use Rattle.honest_runs.specs.Town.{IsNoted, client_after, handed_out, may_alone, noting}
+use Rattle.honest_runs.proofs.Declining.{MayAlone}
 use Rattle.honest_runs.proofs.Noting.{asking, noted_after}
 
 -- what holds of the call of a step holds of it by its other name
@@ -78,6 +80,8 @@ module _ {A : Type 0} (w : Wanted) where
   asking_noted act.Open (answer.Opened how text) call is = by_call (λ c. asking w c ≡ w) (Opens (Ok tt)) call is refl
   asking_noted act.Open (answer.Refused e) call is = by_call (λ c. asking w c ≡ w) (Opens (Err e)) call is refl
   asking_noted act.Close answer.Closed call is = by_call (λ c. asking w c ≡ w) Closes call is refl
+  asking_noted act.Gain answer.Gained call is = by_call (λ c. asking w c ≡ w) Gains call is refl
+  asking_noted (act.Resign n) (answer.Begun r) call is = by_call (λ c. asking w c ≡ w) (Resigns n (on_ok vec_items r)) call is refl
   asking_noted (act.Begin changes laid) (answer.Begun r) call is = by_call (λ c. asking w c ≡ w) (Begins changes.items (texts_in laid) (on_ok vec_items r)) call is refl
   asking_noted (act.Reply text) (answer.Asks r) call is = by_call (λ c. asking w c ≡ noting w (answer.Asks r)) (Hears text.items (on_ok asked r)) call is (asks_same w text.items r)
   asking_noted (act.Block block) (answer.Asks r) call is = by_call (λ c. asking w c ≡ noting w (answer.Asks r)) (Takes (option_map vec_items block) (on_ok asked r)) call is (takes_same w (option_map vec_items block) r)
@@ -88,7 +92,7 @@ module _ {A : Type 0} (w : Wanted) where
   asking_noted (act.Free p first last) (answer.Sees r) call is = by_call (λ c. asking w c ≡ noting w (answer.Sees r)) (Looks (question.Free p first last) (on_ok seen r)) call is (looks_same w (question.Free p first last) r)
   asking_noted (act.Give block) (answer.Sees r) call is = by_call (λ c. asking w c ≡ noting w (answer.Sees r)) (Gives (option_map vec_items block) (on_ok seen r)) call is (gives_same w (option_map vec_items block) r)
   asking_noted (act.Cache capacity) answer.Cached call is = by_call (λ c. asking w c ≡ w) (Caches capacity) call is refl
-  asking_noted (act.Crash ledger journal) answer.Crashed call is = by_call (λ c. asking w c ≡ w) Crashes call is refl
+  asking_noted (act.Crash ledgers journal) answer.Crashed call is = by_call (λ c. asking w c ≡ w) Crashes call is refl
   asking_noted t a call is = absurd (cc is)
 
 -- ---- what is put
@@ -115,6 +119,8 @@ module _ {A : Type 0} where
   put_told act.Open (answer.Opened how text) call is = by_call (λ c. put_with c ≡ []) (Opens (Ok tt)) call is refl
   put_told act.Open (answer.Refused e) call is = by_call (λ c. put_with c ≡ []) (Opens (Err e)) call is refl
   put_told act.Close answer.Closed call is = by_call (λ c. put_with c ≡ []) Closes call is refl
+  put_told act.Gain answer.Gained call is = by_call (λ c. put_with c ≡ []) Gains call is refl
+  put_told (act.Resign n) (answer.Begun r) call is = by_call (λ c. put_with c ≡ []) (Resigns n (on_ok vec_items r)) call is refl
   put_told (act.Begin changes laid) (answer.Begun r) call is =
       by_call (λ c. put_with c ≡ texts_in laid ++ []) (Begins changes.items (texts_in laid) (on_ok vec_items r)) call is (sym (append-nil (texts_in laid)))
   put_told (act.Reply text) (answer.Asks r) call is = by_call (λ c. put_with c ≡ handed_out (answer.Asks r)) (Hears text.items (on_ok asked r)) call is (reply_put text.items r)
@@ -126,7 +132,7 @@ module _ {A : Type 0} where
   put_told (act.Free p first last) (answer.Sees r) call is = by_call (λ c. put_with c ≡ []) (Looks (question.Free p first last) (on_ok seen r)) call is refl
   put_told (act.Give block) (answer.Sees r) call is = by_call (λ c. put_with c ≡ []) (Gives (option_map vec_items block) (on_ok seen r)) call is refl
   put_told (act.Cache capacity) answer.Cached call is = by_call (λ c. put_with c ≡ []) (Caches capacity) call is refl
-  put_told (act.Crash ledger journal) answer.Crashed call is = by_call (λ c. put_with c ≡ []) Crashes call is refl
+  put_told (act.Crash ledgers journal) answer.Crashed call is = by_call (λ c. put_with c ≡ []) Crashes call is refl
   put_told t a call is = absurd (cc is)
 
 -- ---- what is handed in
@@ -164,21 +170,23 @@ module _ (run : List HonestEvent) (client : Client) (blocks : Blocks) where
 
   module _ {A : Type 0} where
     -- nothing, to a client that does something alone
-    pub alone_handed : (t : Act A) (a : Answer A) (call : Call) → hands_in t ≡ false → call_of t a ≡ Some call → Handed call
+    pub alone_handed : (t : Act A) (a : Answer A) (call : Call) → MayAlone run client t → call_of t a ≡ Some call → Handed call
     alone_handed act.Open (answer.Opened how text) call lone is = by_call Handed (Opens (Ok tt)) call is tt
     alone_handed act.Open (answer.Refused e) call lone is = by_call Handed (Opens (Err e)) call is tt
     alone_handed act.Close answer.Closed call lone is = by_call Handed Closes call is tt
+    alone_handed act.Gain answer.Gained call lone is = by_call Handed Gains call is tt
+    alone_handed (act.Resign n) (answer.Begun r) call lone is = by_call Handed (Resigns n (on_ok vec_items r)) call is lone
     alone_handed (act.Begin changes laid) (answer.Begun r) call lone is = by_call Handed (Begins changes.items (texts_in laid) (on_ok vec_items r)) call is tt
-    alone_handed (act.Reply text) a call lone is = absurd (cc lone)
-    alone_handed (act.Block block) a call lone is = absurd (cc lone)
+    alone_handed (act.Reply text) a call lone is = absurd lone
+    alone_handed (act.Block block) a call lone is = absurd lone
     alone_handed act.Sign (answer.Signed r) call lone is = by_call Handed (Signs (on_ok (λ (y : Accepted A). y.text.items) r)) call is tt
-    alone_handed (act.Committed status) a call lone is = absurd (cc lone)
+    alone_handed (act.Committed status) a call lone is = absurd lone
     alone_handed (act.Look p i) (answer.Sees r) call lone is = by_call Handed (Looks (question.At p i) (on_ok seen r)) call is tt
     alone_handed (act.Kind p i) (answer.Sees r) call lone is = by_call Handed (Looks (question.Kind p i) (on_ok seen r)) call is tt
     alone_handed (act.Free p first last) (answer.Sees r) call lone is = by_call Handed (Looks (question.Free p first last) (on_ok seen r)) call is tt
-    alone_handed (act.Give block) a call lone is = absurd (cc lone)
+    alone_handed (act.Give block) a call lone is = absurd lone
     alone_handed (act.Cache capacity) answer.Cached call lone is = by_call Handed (Caches capacity) call is tt
-    alone_handed (act.Crash ledger journal) answer.Crashed call lone is = by_call Handed Crashes call is tt
+    alone_handed (act.Crash ledgers journal) answer.Crashed call lone is = by_call Handed Crashes call is tt
     alone_handed t a call lone is = absurd (cc is)
 
     -- the reply of an answer
@@ -212,17 +220,20 @@ module _ (run : List HonestEvent) (client : Client) (blocks : Blocks) where
 -- ---- what comes of a client that is told to do something
 
 -- the step that it takes, if it does, with what is put, and what is noted
-pub record IsDone {A : Type 0} (o : Owner) (before : Client) (t : Act A) (a : Answer A) (after : Client) : Type 0 where
+pub record IsDone {A : Type 0} (u : User) (before : Client) (t : Act A) (a : Answer A) (after : Client) : Type 0 where
   pub step : Option StepTaken
-  pub does : Does before t step a
-  pub taken : IfSome step (λ s. IsStep o before s.call s.after × IsSound s.after)
+  pub does : Does u before t step a
+  pub taken : IfSome step (λ s. IsStep (owner script_keys u) before s.call s.after × IsSound s.after)
   pub is_call : IfSome step (λ s. call_of t a ≡ Some s.call)
   pub client : after ≡ client_after before step
   pub put : IfSome step (λ s. laid_by t ++ handed_out a ≡ put_with s.call)
   pub none : step ≡ None → handed_out a ≡ []
 
-module _ {A : Type 0} (o : Owner) (before : Client) (t : Act A) (after : Client) where
-  takes_it : (a : Answer A) → IsTaken o before t a after → IsDone o before t a after
+module _ {A : Type 0} (u : User) (before : Client) (t : Act A) (after : Client) where
+  abbrev o : Owner
+  o = owner script_keys u
+
+  takes_it : (a : Answer A) → IsTaken o before t a after → IsDone u before t a after
   takes_it a h = record {
     step = Some (record { call = h.call; after = after });
     does = (h.is_call, h.told);
@@ -233,11 +244,12 @@ module _ {A : Type 0} (o : Owner) (before : Client) (t : Act A) (after : Client)
     none = λ w. absurd (cc w);
   }
 
-  pub is_done : (a : Answer A) → ComesOf o before t a after → IsDone o before t a after
+  pub is_done : (a : Answer A) → ComesOf o before t a after → IsDone u before t a after
   is_done answer.NotTaken h = record { step = None; does = h.1; taken = tt; is_call = tt; client = h.0; put = tt; none = λ w. refl }
   is_done (answer.Opened how text) h = takes_it (answer.Opened how text) h
   is_done (answer.Refused error) h = takes_it (answer.Refused error) h
   is_done answer.Closed h = takes_it answer.Closed h
+  is_done answer.Gained h = takes_it answer.Gained h
   is_done (answer.Begun r) h = takes_it (answer.Begun r) h
   is_done (answer.Asks r) h = takes_it (answer.Asks r) h
   is_done (answer.Signed r) h = takes_it (answer.Signed r) h
@@ -256,6 +268,7 @@ module _ {A : Type 0} (o : Owner) (before : Client) (t : Act A) (after : Client)
     is_noted (answer.Opened how text) h = still_noted (answer.Opened how text) h
     is_noted (answer.Refused error) h = still_noted (answer.Refused error) h
     is_noted answer.Closed h = still_noted answer.Closed h
+    is_noted answer.Gained h = still_noted answer.Gained h
     is_noted (answer.Begun r) h = still_noted (answer.Begun r) h
     is_noted (answer.Asks r) h = still_noted (answer.Asks r) h
     is_noted (answer.Signed r) h = still_noted (answer.Signed r) h
@@ -267,34 +280,41 @@ module _ {A : Type 0} (o : Owner) (before : Client) (t : Act A) (after : Client)
 
 -- ---- single acts
 
--- what a client is told to do that hands nothing in, it does alone
-pub does_alone : {A : Type 0} (client : Client) (t : Act A) (s : Option StepTaken) (a : Answer A) → hands_in t ≡ false → Does client t s a → DoesAlone client t s a
-does_alone client (act.Reply text) s a lone h = absurd (cc lone)
-does_alone client (act.Block block) s a lone h = absurd (cc lone)
-does_alone client (act.Committed status) s a lone h = absurd (cc lone)
-does_alone client (act.Give block) s a lone h = absurd (cc lone)
-does_alone client t s a lone h = h
+-- what a client may do alone, and is told to do, it does alone
+pub does_alone : {A : Type 0} (older : List HonestEvent) (u : User) (client : Client) (t : Act A) (s : Option StepTaken) (a : Answer A) → MayAlone older client t → Does u client t s a → DoesAlone older u client t s a
+does_alone older u client (act.Reply text) s a lone h = absurd lone
+does_alone older u client (act.Block block) s a lone h = absurd lone
+does_alone older u client (act.Committed status) s a lone h = absurd lone
+does_alone older u client (act.Give block) s a lone h = absurd lone
+does_alone older u client (act.Resign n) s a lone h = inl (lone, h)
+does_alone older u client t s a lone h = h
 
--- and what hands something in it doesn't, nor is anything laid out for it
-pub not_alone : {A : Type 0} (client : Client) (t : Act A) → hands_in t ≡ true → DoesAlone client t None answer.NotTaken × (laid_by t ≡ [])
-not_alone client (act.Reply text) hands = ((refl, refl), refl)
-not_alone client (act.Block block) hands = ((refl, refl), refl)
-not_alone client (act.Committed status) hands = ((refl, refl), refl)
-not_alone client (act.Give block) hands = ((refl, refl), refl)
-not_alone client t hands = absurd (cc hands)
+-- and what it may not it doesn't
+pub not_alone : {A : Type 0} (older : List HonestEvent) (u : User) (client : Client) (t : Act A) → (MayAlone older client t → ⊥) → DoesAlone older u client t None answer.NotTaken
+not_alone older u client (act.Reply text) cannot = (refl, refl)
+not_alone older u client (act.Block block) cannot = (refl, refl)
+not_alone older u client (act.Committed status) cannot = (refl, refl)
+not_alone older u client (act.Give block) cannot = (refl, refl)
+not_alone older u client (act.Resign n) cannot = inr (cannot, (refl, refl))
+not_alone older u client t cannot = absurd (cannot tt)
+
+-- nothing is laid out for it
+pub none_laid : {A : Type 0} (xs : List (Option Exchange)) (client : Client) (t : Act A) → may_alone xs client t ≡ false → laid_by t ≡ []
+none_laid xs client (act.Begin changes laid) cannot = absurd (cc cannot)
+none_laid xs client t cannot = refl
 
 -- one that is open in this phase can't but take the status
 signed_takes : (how : Phase) (text own : Bytes) → structure_in how own ≡ Some text → (how ≡ phase.Signed → ⊥) → ⊥
 signed_takes phase.Signed text own is cannot = cannot refl
 signed_takes how text own is cannot = cc is
 
-takes_status : (A : Type 0) (c : Client) (status : Status) (text : Bytes) → structure_of c ≡ Some text → CantBeTaken {A = A} c (act.Committed status) → ⊥
-takes_status A (Closed p) status text is cannot = cc is
-takes_status A (Open s) status text is cannot = signed_takes s.phase text s.text is cannot
+takes_status : (A : Type 0) (o : Owner) (c : Client) (status : Status) (text : Bytes) → structure_of c ≡ Some text → CantBeTaken {A = A} o c (act.Committed status) → ⊥
+takes_status A o (Closed p) status text is cannot = cc is
+takes_status A o (Open s) status text is cannot = signed_takes s.phase text s.text is cannot
 
 -- a client that has a structure to send takes the status
 pub acknowledged : {A : Type 0} (o : Owner) (before after : Client) (status : Status) (a : Answer A) (text : Bytes) → structure_of before ≡ Some text
     → ComesOf o before (act.Committed status) a after → a ≡ answer.Committed
 acknowledged o before after status answer.Committed text sent h = refl
-acknowledged {A = A} o before after status answer.NotTaken text sent h = absurd (takes_status A before status text sent h.1)
+acknowledged {A = A} o before after status answer.NotTaken text sent h = absurd (takes_status A o before status text sent h.1)
 acknowledged o before after status a text sent h = absurd (cc h.is_call)

@@ -2,21 +2,22 @@
 -- blocks. What a client is handed is what the server answered, in that step or an earlier one, to the very text that it
 -- has now, or the stored block that it asks for; and what its operations need is stored before it sends or signs
 -- anything.
-use Rattle.std.specs.Prelude.{◌≡◌, ◌≢◌, ◌≤◌, ◌⊎◌, true, false, List, [], ◌∷◌, Option, Some, None, IfSome, IsSomeAnd, filter_map, if◌then◌else◌, length}
+use Rattle.std.specs.Prelude.{◌≡◌, ◌≢◌, ◌≤◌, ◌⊎◌, true, false, List, [], ◌∷◌, Option, Some, None, IfSome, IsSomeAnd, MatchOption, filter_map, if◌then◌else◌, length}
 use Rattle.std.specs.Option.{option_and_then, option_map}
 use Rattle.layout.specs.Types.{Bytes, Digest, Key, User}
 use Rattle.tree_parts.specs.Blocks.{Blocks}
 use Rattle.client_tree.specs.Held.{Block, held, keeping_all}
+use Rattle.wire.specs.declared.kinds.Status.{Status}
 use Rattle.wire.specs.declared.kinds.Status.TheVariants as status
 use Rattle.client_verify.specs.State.{asked_of}
-use Rattle.client_steps.specs.Steps.{Begins, Call as ClientCall, Client, Closed, Commits, Gives, Hears, IsSound, IsStep, Open, StepTaken, Takes}
+use Rattle.client_steps.specs.Steps.{Begins, Call as ClientCall, Client, Closed, Commits, Gives, Hears, IsSound, IsStep, Open, Resigns, StepTaken, Takes}
 use Rattle.client_runs.specs.Runs.{Event, IsRun, Keys, client_of, owner, pinned}
 use Rattle.client_runs.specs.Released.{stored_texts}
 use Rattle.client_runs.specs.Clients.{certificate_of, structure_of}
 use Rattle.consistency_server.specs.declared.call.CallKind.{CallKind}
 use Rattle.consistency_server.specs.declared.call.CallKind.TheVariants.{Update, Commit}
 use Rattle.consistency_server.specs.Answers.{Answer, Call}
-use Rattle.consistency_server.specs.History.{answer_of, call_of, is_carried_out, log_of, logged}
+use Rattle.consistency_server.specs.History.{answer_of, call_of, is_carried_out, log_of, logged, update_of}
 
 -- a call of the server, and what it answered
 pub record Exchange : Type 0 where
@@ -91,8 +92,21 @@ abbrev pub WasTold : List HonestEvent → Client → CallKind → Answer → Typ
 WasTold run client kind answer =
     IsSomeAnd (sent_by client kind) (λ text. TookPlace run (record { call = call_of kind text; answer = answer }))
 
+-- the last of these steps in which this call was made was answered with this status
+abbrev pub LastAnswered : List HonestEvent → Call → Status → Type 0
+LastAnswered [] call s = ⊥
+LastAnswered (h ∷ older) call s =
+    MatchOption h.exchange (LastAnswered older call s)
+    (λ x. ((x.call ≡ call) × (x.answer.status ≡ s)) ⊎ ((x.call ≢ call) × LastAnswered older call s))
+
+-- the server's last answer to the certificate that the client has now was that it isn't signed under its user's key
+abbrev pub WasDeclined : List HonestEvent → Client → Type 0
+WasDeclined run client =
+    IsSomeAnd (sent_by client Update) (λ text. LastAnswered run (update_of text) status.BadSignature)
+
 -- A client is handed what the server answered, in one of these steps, to the text that it has now: the reply, with
--- status 0, to its certificate, or the status of its structure; and of blocks what is stored.
+-- status 0, to its certificate, or the status of its structure; and of blocks what is stored. It signs a certificate
+-- again only where that was declined.
 abbrev pub IsHandedIn : List HonestEvent → Client → Blocks → ClientCall → Type 0
 IsHandedIn run client blocks (Hears text answer) =
     WasTold run client Update (record { status = status.Ok; payload = text })
@@ -100,6 +114,7 @@ IsHandedIn run client blocks (Takes block answer) = IsFound blocks (wanted_by cl
 IsHandedIn run client blocks (Commits given) =
     (payload : Bytes) × WasTold run client Commit (record { status = given; payload = payload })
 IsHandedIn run client blocks (Gives block answer) = IsFound blocks (looked_for_by client) block
+IsHandedIn run client blocks (Resigns n answer) = WasDeclined run client
 IsHandedIn run client blocks call = Unit {0}
 
 -- the texts that are put into the store with a call: what is laid out for an operation, and what the client hands out

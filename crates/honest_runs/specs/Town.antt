@@ -1,5 +1,5 @@
 -- Clients, server and store in memory: for private contracts. Nobody has to believe this file.
-use Rattle.std.specs.Prelude.{◌≡◌, ◌≢◌, ℕ, Bool, true, false, List, [], ◌∷◌, ◌++◌, Option, Some, None, IfSome, Ok, length, option_and_then, option_to_list, reverse, slice_index_or}
+use Rattle.std.specs.Prelude.{◌≡◌, ◌≢◌, ℕ, Bool, true, false, List, [], ◌∷◌, ◌++◌, Option, Some, None, IfSome, Ok, length, option_and_then, option_to_list, reverse, slice_index_or, if◌then◌else◌, not}
 use Rattle.std.specs.Option.{option_map_or}
 use Rattle.std.specs.Str.{bytes_eq}
 use Rattle.std.specs.declared.vec.Vec.{Vec}
@@ -17,7 +17,7 @@ use Rattle.client_runs.specs.declared.world.Answer.TheVariants.{Asks, Sees, Serv
 use Rattle.client_runs.specs.Runs.{client_of, owner, pinned}
 use Rattle.client_runs.specs.Told.{texts_in}
 use Rattle.client_runs.specs.Carried.{ComesOf, script_keys}
-use Rattle.client_runs.specs.Clients.{client_at}
+use Rattle.client_runs.specs.Clients.{certificate_of, client_at}
 use Rattle.consistency_server.specs.declared.call.CallKind.{CallKind}
 use Rattle.consistency_server.specs.declared.call.CallKind.TheVariants.{Update, Commit}
 use Rattle.consistency_server.specs.Answers.{Answer as ServerAnswer, Call}
@@ -69,6 +69,40 @@ hands_in (act.Block block) = true
 hands_in (act.Committed status) = true
 hands_in (act.Give block) = true
 hands_in other = false
+
+-- ---- what was declined
+
+abbrev pub by_update : CallKind → Bool → Bool
+by_update Update same = same
+by_update Commit same = false
+
+-- this call is an UPDATE with this text
+abbrev pub is_update_of : Bytes → Call → Bool
+is_update_of text call = by_update call.kind (bytes_eq call.text text)
+
+abbrev pub speaks_of_signature : Status → Bool
+speaks_of_signature status.BadSignature = true
+speaks_of_signature other = false
+
+-- an UPDATE with this text was declined for its signature when it was made last, after one exchange more
+abbrev pub declined_with : Bytes → Bool → Option Exchange → Bool
+declined_with text declined None = declined
+declined_with text declined (Some x) =
+    if is_update_of text x.call then speaks_of_signature x.answer.status else declined
+
+-- so it was among these, the latest of which is the first
+abbrev pub is_declined : Bytes → List (Option Exchange) → Bool
+is_declined text [] = false
+is_declined text (x ∷ older) = declined_with text (is_declined text older) x
+
+-- and so the certificate was that a client has, among these, the earliest of which is the first
+abbrev pub has_declined : List (Option Exchange) → Client → Bool
+has_declined xs client = option_map_or (λ text. is_declined text (reverse xs)) (certificate_of client) false
+
+-- a client may be told to do this alone, after these
+abbrev pub may_alone : {A : Type 0} → List (Option Exchange) → Client → Act A → Bool
+may_alone xs client (act.Resign n) = has_declined xs client
+may_alone xs client other = not (hands_in other)
 
 -- ---- calls of the server
 

@@ -1,7 +1,8 @@
 //! Calls of the server with their answers, which may arrive again, or late.
 
-ghost use Rattle.std.specs.Prelude.{◌≡◌, ◌++◌, [], ◌∷◌, IfOk, OnOk};
+ghost use Rattle.std.specs.Prelude.{◌≡◌, ◌++◌, [], ◌∷◌, IfOk, OnOk, reverse};
 ghost use Rattle.honest_runs.specs.Served.{exchange_at};
+ghost use Rattle.honest_runs.specs.Town.{declined_with, is_declined, is_update_of, speaks_of_signature};
 
 use consistency_server::{Answer, CallKind};
 use layout::Memory;
@@ -59,6 +60,16 @@ impl<A: Allocator> Exchange<A> {
     {
         self.answer.payload()
     }
+
+    /// Whether it is an UPDATE with this text.
+    fn updates(&self, text: &[u8]) -> bool
+        ensures { result ≡ is_update_of text.now self.now.call }
+    {
+        match self.kind() {
+            CallKind::Update => self.text() == text,
+            CallKind::Commit => false,
+        }
+    }
 }
 
 impl<A: Allocator + Copy> Exchange<A> {
@@ -99,4 +110,38 @@ pub(crate) fn earlier<A: Allocator + Copy>(
         Some(Some(exchange)) => Ok(Some(exchange.copy(alloc)?)),
         _ => Ok(None),
     }
+}
+
+/// Whether a status says that a text isn't signed under its user's key.
+fn is_of_signature(status: Status) -> bool
+    ensures { result ≡ speaks_of_signature status }
+{
+    matches!(status, Status::BadSignature)
+}
+
+/// Whether an UPDATE with this text was declined for its signature when it was made last, after one exchange more.
+fn still_declined<A: Allocator>(text: &[u8], declined: bool, exchange: &Option<Exchange<A>>) -> bool
+    ensures { result ≡ declined_with text.now declined exchange.now }
+{
+    match exchange {
+        Some(exchange) => {
+            if exchange.updates(text) {
+                is_of_signature(exchange.status())
+            } else {
+                declined
+            }
+        }
+        None => declined,
+    }
+}
+
+/// Whether an UPDATE with this text was declined for its signature when it was made last, if it was made.
+pub(crate) fn was_declined<A: Allocator>(exchanges: &[Option<Exchange<A>>], text: &[u8]) -> bool
+    ensures { result ≡ is_declined text.now (reverse exchanges.now) }
+{
+    let mut declined = false;
+    for exchange in exchanges {
+        declined = still_declined(text, declined, exchange);
+    }
+    declined
 }

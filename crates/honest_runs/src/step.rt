@@ -16,7 +16,8 @@ pub enum Delivery {
 /// What happens in a step.
 #[derive(Drop)]
 pub enum HonestAct<A: Allocator> {
-    /// The client does this alone. What would hand something in, a reply, a block or a status, is never taken. What is
+    /// The client does this alone. What would hand something in, a reply, a block or a status, is never taken; nor is
+    /// signing a certificate once more, unless the server declined it for its signature when it was sent last. What is
     /// laid out for an operation is put into the store before the client is told to begin it.
     Alone(Act<A>),
     /// The client sends the certificate that it has declared, and this becomes of the answer. It isn't taken while none
@@ -41,7 +42,7 @@ pub struct HonestStep<A: Allocator> {
     pub user: User,
     /// What happens.
     pub act: HonestAct<A>,
-    /// How many calls of the ledger's device go well in this step before one fails, if one is to fail. No clause says
+    /// How many calls of the ledgers' devices go well in this step before one fails, if one is to fail. No clause says
     /// that it fails then, nor that no other does: tests show it.
     pub ledger_fails: Option<u64>,
     /// And of the journal's.

@@ -9,10 +9,10 @@ ghost use Rattle.client_steps.specs.Steps.{first};
 ghost use Rattle.honest_runs.specs.HonestRuns.{sent_by};
 ghost use Rattle.honest_runs.specs.Town.{Acknowledges, AreNoted, Arrives, ComesOfReply, ComesTo, Happens, IsCarriedOut};
 ghost use Rattle.honest_runs.specs.Town.{IsDeliveredTo, IsSent, IsTold, calling, handed_out, has_text};
-ghost use Rattle.honest_runs.specs.Town.{hands_in as hands_in_of};
+ghost use Rattle.honest_runs.specs.Town.{has_declined, hands_in as hands_in_of, may_alone as may_alone_of};
 ghost use Rattle.honest_runs.specs.Served.{laid_by};
 
-use crate::exchange::{Exchange, earlier, keep};
+use crate::exchange::{Exchange, earlier, keep, was_declined};
 use crate::server::Server;
 use crate::step::{Delivery, HonestAct, HonestStep};
 use crate::wanted::{Wanted, note, nothing_wanted};
@@ -187,13 +187,34 @@ impl<A: Allocator + Copy> Town<A> {
         Ok(answer)
     }
 
+    /// Whether the certificate that a user's client has was declined for its signature when it was sent last.
+    fn declined(&self, user: User) -> bool
+        ensures { result ≡ has_declined self.now.exchanges.items (client_at self.now.clients user) }
+    {
+        match self.clients.certificate(user) {
+            Some(text) => was_declined(&self.exchanges, text),
+            None => false,
+        }
+    }
+
+    /// Whether a user's client may be told to do this alone: it hands nothing in, and signs no certificate once more
+    /// but one that was declined.
+    fn may_alone(&self, user: User, act: &Act<A>) -> bool
+        ensures { result ≡ may_alone_of self.now.exchanges.items (client_at self.now.clients user) act.now }
+    {
+        match act {
+            Act::Resign(_) => self.declined(user),
+            _ => !hands_in(act),
+        }
+    }
+
     /// The client does something alone.
     fn alone(&mut self, step: &HonestStep<A>, act: &Act<A>) -> Result<Answer<A>, Memory>
         requires noted { AreNoted self.old.clients self.old.wanted.items }
         requires act { step.now.act ≡ HonestAct.Alone act.now }
         ensures { IfOk result (λ answer. Happens step.now answer None self.old self.new) }
     {
-        if hands_in(act) {
+        if !self.may_alone(step.user, act) {
             return Ok(Answer::NotTaken);
         }
         put_laid(self.alloc, &mut self.store, act)?;
