@@ -7,7 +7,7 @@ use Rattle.client_releases.specs.declared.phase.Phase.TheVariants as phase
 use Rattle.client_verify.specs.State.{State}
 use Rattle.client_steps.specs.Steps.{Open}
 use Rattle.client_runs.specs.Clients.{certificate_in, structure_in}
-use Rattle.client_runs.specs.Runs.{Keys, public_key}
+use Rattle.client_runs.specs.Runs.{Keys, pinned}
 use Rattle.consistency_server.specs.declared.call.CallKind.{CallKind}
 use Rattle.consistency_server.specs.declared.call.CallKind.TheVariants.{Update, Commit}
 use Rattle.consistency_server.specs.Answers.{Answer, Call}
@@ -24,7 +24,7 @@ told_of run (Some text) kind a was = (record { call = record { kind = kind; text
 
 module _ (keys : Keys) where
   abbrev key : Key
-  key = public_key keys 0
+  key = pinned keys
 
   -- ---- a call of this step
 

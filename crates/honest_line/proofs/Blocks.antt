@@ -23,7 +23,7 @@ use Rattle.client_verify.specs.declared.view.Looking.{Looking}
 use Rattle.client_verify.specs.State.{AcceptedView, Checked, Reading, State, Writing, asked_of, known, lists_under}
 use Rattle.client_steps.specs.Steps.{Call, Client, Closed, Gives, Hears, IsSound, IsStep, Looks, Open, StepTaken, Takes, principal_of}
 use Rattle.client_runs.specs.Released.{Shown, hashed, hashed_at, released, released_by, shown_by, shown_in, tried_view, views}
-use Rattle.client_runs.specs.Runs.{Event, IsRun, Keys, client_of, owner, public_key}
+use Rattle.client_runs.specs.Runs.{Event, IsRun, Keys, client_of, owner, pinned}
 use Rattle.client_runs.proofs.Replies.{IsJudged, IsUnder, lists_back, of_lists, shown}
 use Rattle.agreement.specs.Runs.{View, user_of}
 use Rattle.agreement.proofs.Formed.{cert_fits}
@@ -74,7 +74,7 @@ fewer_collide more few into apart a b i j same = apart a b (in_contains a more (
 
 module _ (keys : Keys) where
   abbrev key : Key
-  key = public_key keys 0
+  key = pinned keys
 
   event_hashed : (u : User) (s : Option StepTaken) (es : List Event) (t : Bytes) → In t (hashed keys es) → In t (hashed keys (events_with u s es))
   event_hashed u None es t i = i

@@ -1,8 +1,7 @@
 -- How far a user's client in a run is in a dialogue: what its journal tells is the stage, or what was tried since makes
 -- a move of it.
-use Rattle.std.proofs.Common.{◌≡◌, List, [], ◌∷◌, Option, Some, None, IfSome, sym, subst}
+use Rattle.std.proofs.Common.{◌≡◌, ℕ, List, [], ◌∷◌, Option, Some, None, IfSome, sym, subst}
 use Rattle.std.specs.Prelude.{◌⊎◌}
-use Rattle.std.specs.List.{All}
 use Rattle.layout.specs.Types.{Bytes, User}
 use Rattle.lms_sign.specs.Signature.{signature_of}
 use Rattle.leaf_ledger.specs.Ledger.{LeafNumber}
@@ -19,50 +18,60 @@ use Rattle.agreement.specs.Runs.{View, user_of}
 use Rattle.release_runs.specs.Steps as low
 use Rattle.release_runs.proofs.Holds as low_holds
 use Rattle.release_runs.proofs.Stories.{OfCert, OfStructure, Release, last_in, phase_in, text}
-use Rattle.client_runs.specs.Runs.{Keys, owner, public_key}
+use Rattle.client_runs.specs.Runs.{Keys, owner, pinned}
 use Rattle.client_runs.proofs.Lowering.{low_client, low_owner}
 use Rattle.honest_history.specs.Honest.{Names, Naming}
-use Rattle.honest_dialogues.specs.Dialogue.{Act, Declared, GivesOwnKey, Idle, IsNextCert, IsSealed, MayMove, Sealed, Stage, call_by, view_by}
+use Rattle.honest_dialogues.specs.Dialogue.{Act, Declared, Declined, HearsDeclined, Idle, IsNextCert, IsSealed, MayMove, Sealed, Stage, call_by, view_by}
 use Rattle.consistency_server.specs.Answers.{Call as ServerCall}
+
+-- a key, by its number, and a leaf of it
+abbrev pub Mark : Type 0
+Mark = ℕ × LeafNumber
 
 module _ (keys : Keys) (naming : Naming) (u : User) where
   -- whose releases these are
   abbrev pub o : low.Owner
   o = low_owner (owner keys u)
 
-  abbrev pub signed_cert : Cert → LeafNumber → Signed Cert
-  signed_cert c q = record { value = c; signature = signature_of (low.secret_of 0 o) q (cert.spell c) }
+  -- what is signed by a leaf of a key
+  abbrev pub signed_cert : Cert → Mark → Signed Cert
+  signed_cert c q = record { value = c; signature = signature_of (low.secret_of q.0 o) q.1 (cert.spell c) }
 
-  abbrev pub signed_structure : Structure → LeafNumber → Signed Structure
-  signed_structure z q = signed_by (low.secret_of 0 o) q z
+  abbrev pub signed_structure : Structure → Mark → Signed Structure
+  signed_structure z q = signed_by (low.secret_of q.0 o) q.1 z
+
+  -- and its text
+  abbrev pub cert_text : Cert → Mark → Bytes
+  cert_text c q = text o (OfCert q.0 c q.1)
+
+  abbrev pub structure_text : Structure → Mark → Bytes
+  structure_text z q = text o (OfStructure q.0 z q.1)
 
   -- ---- what may come
 
-  -- the certificate is the next one, where user 0 gives each user its own key
-  abbrev pub MayDeclare : Option (Signed Structure) → Signed Cert → Type 0
-  MayDeclare last c = (u ≡ 0 → All (λ change. GivesOwnKey (public_key keys) change.action) c.value.changes) → IsNextCert (public_key keys) u last c
-
   -- the structure is signed over these lists, where a handle of user 0's names the table
   abbrev pub MaySeal : Option (Signed Structure) → Lists → View → Signed Structure → Type 0
-  MaySeal last x v z = (user_of v ≡ 0 → Names naming v.signed.handle v.table) → IsSealed (public_key keys) naming u last x v z
+  MaySeal last x v z = (user_of v ≡ 0 → Names naming v.signed.handle v.table) → IsSealed (pinned keys) naming u last x v z
 
   -- ---- closed clients
 
   -- the stage is what these releases tell, or the structure that was signed last is committed
   abbrev pub IsOfStory : List Release → Stage → Type 0
   IsOfStory [] stage = stage ≡ Idle None
-  IsOfStory (OfCert n c q ∷ older) stage = (heard : Option Lists) × (stage ≡ Declared (last_in o older) (signed_cert c q) heard)
-  IsOfStory (OfStructure n z q ∷ older) stage = (stage ≡ Sealed (signed_structure z q)) ⊎ (stage ≡ Idle (Some (signed_structure z q)))
+  IsOfStory (OfCert n c q ∷ older) stage = ((heard : Option Lists) × (stage ≡ Declared (last_in o older) (signed_cert c (n, q)) heard))
+      ⊎ (stage ≡ Declined (last_in o older) (signed_cert c (n, q)))
+  IsOfStory (OfStructure n z q ∷ older) stage = (stage ≡ Sealed (signed_structure z (n, q))) ⊎ (stage ≡ Idle (Some (signed_structure z (n, q))))
 
   -- what was tried since is a move of it, once it is found
   abbrev pub IsTriedAt : List Release → Option Release → Option View → Stage → Type 0
   IsTriedAt story None None stage = Unit {0}
   IsTriedAt story None (Some v) stage = phase_in story ≡ phase.Declared
-  IsTriedAt story (Some (OfCert n c q)) None stage = (stage ≡ Idle (last_in o story)) × MayDeclare (last_in o story) (signed_cert c q)
+  IsTriedAt story (Some (OfCert n c q)) None stage = IsNextCert u (last_in o story) (signed_cert c (n, q))
+      × ((stage ≡ Idle (last_in o story)) ⊎ ((d : Signed Cert) × (stage ≡ Declined (last_in o story) d) × (c ≡ d.value)))
   IsTriedAt story (Some (OfCert n c q)) (Some v) stage = ⊥
   IsTriedAt story (Some (OfStructure n z q)) None stage = ⊥
   IsTriedAt story (Some (OfStructure n z q)) (Some v) stage = (phase_in story ≡ phase.Declared)
-      × ((c : Signed Cert) × (x : Lists) × (stage ≡ Declared (last_in o story) c (Some x)) × MaySeal (last_in o story) x v (signed_structure z q))
+      × ((c : Signed Cert) × (x : Lists) × (stage ≡ Declared (last_in o story) c (Some x)) × MaySeal (last_in o story) x v (signed_structure z (n, q)))
 
   -- ---- open clients
 
@@ -74,10 +83,10 @@ module _ (keys : Keys) (naming : Naming) (u : User) where
   -- the stage of a client in this phase
   abbrev pub IsInPhase : Phase → State → Stage → Type 0
   IsInPhase phase.Idle s stage = stage ≡ Idle s.last
-  IsInPhase phase.Declared s stage = (c : Cert) × (q : LeafNumber) × (heard : Option Lists)
-      × (stage ≡ Declared s.last (signed_cert c q) heard) × (s.text ≡ text o (OfCert 0 c q)) × HoldsHeard s heard
-  IsInPhase phase.Signed s stage = (z : Structure) × (q : LeafNumber)
-      × (stage ≡ Sealed (signed_structure z q)) × (s.last ≡ Some (signed_structure z q)) × (s.text ≡ text o (OfStructure 0 z q))
+  IsInPhase phase.Declared s stage = (c : Cert) × (q : Mark) × (heard : Option Lists)
+      × (stage ≡ Declared s.last (signed_cert c q) heard) × (s.text ≡ cert_text c q) × HoldsHeard s heard
+  IsInPhase phase.Signed s stage = (z : Structure) × (q : Mark)
+      × (stage ≡ Sealed (signed_structure z q)) × (s.last ≡ Some (signed_structure z q)) × (s.text ≡ structure_text z q)
   IsInPhase phase.Failed s stage = Unit {0}
 
   pub record IsOpenAt (s : State) (view : Option View) (stage : Stage) : Type 0 where
@@ -104,15 +113,22 @@ module _ (keys : Keys) (naming : Naming) (u : User) where
   pub record IsMove (history : List ServerCall) (before : Stage) (client : Client) (texts : List Bytes) (view : Option View) (sent : List ServerCall) (accepted : List View) : Type 0 where
     pub act : Act
     pub after : Stage
-    pub may : MayMove (public_key keys) naming history u before act after
+    pub may : MayMove (pinned keys) naming history u before act after
     pub sends : call_by act after ≡ sent
     pub accepts : view_by act ≡ accepted
     pub follows : Follows client texts view after
 
+  -- or two, of which the first is that it hears that its certificate was declined
+  pub record AreMoves (history : List ServerCall) (before : Stage) (client : Client) (texts : List Bytes) (view : Option View) (sent : List ServerCall) (accepted : List View) : Type 0 where
+    pub between : Stage
+    pub declined : MayMove (pinned keys) naming history u before HearsDeclined between
+    pub then_is : IsMove history between client texts view sent accepted
+
   -- or none
   abbrev pub Goes : List ServerCall → Stage → Client → List Bytes → Option View → List ServerCall → List View → Type 0
   Goes history before client texts view sent accepted =
-      ((sent ≡ []) × (accepted ≡ []) × Follows client texts view before) ⊎ IsMove history before client texts view sent accepted
+      ((sent ≡ []) × (accepted ≡ []) × Follows client texts view before)
+      ⊎ (IsMove history before client texts view sent accepted ⊎ AreMoves history before client texts view sent accepted)
 
   -- ---- open clients that go on
 

@@ -13,7 +13,7 @@ use Rattle.client_releases.specs.declared.error.ClientError.{ClientError}
 use Rattle.client_releases.specs.declared.error.ClientError.TheVariants as error
 use Rattle.client_steps.specs.Steps.{Call as ClientCall, Client, Hears, StepTaken}
 use Rattle.client_runs.specs.Released.{Shown, shown_by, shown_in, unless_memory}
-use Rattle.client_runs.specs.Runs.{Event, IsRun, Keys, client_of, public_key}
+use Rattle.client_runs.specs.Runs.{Event, IsRun, Keys, client_of, pinned}
 use Rattle.consistency_server.specs.declared.call.CallKind.{CallKind}
 use Rattle.consistency_server.specs.declared.call.CallKind.TheVariants.{Update, Commit}
 use Rattle.consistency_server.specs.Event as placed
@@ -34,7 +34,7 @@ use Rattle.honest_line.proofs.Shown.{AreReleased, IsOfReleased, ShowsReleased, a
 
 module _ (keys : Keys) where
   abbrev key : Key
-  key = public_key keys 0
+  key = pinned keys
 
   -- ---- what was released stays so
 

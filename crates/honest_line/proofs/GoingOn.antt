@@ -1,5 +1,5 @@
 -- Each call of an honest run that is answered without an error leads on.
-use Rattle.std.proofs.Common.{◌≡◌, List, [], ◌∷◌, Option, Some, None, Ok, IfSome, IsSome, IsSomeAnd, refl, ap, inl, inr}
+use Rattle.std.proofs.Common.{◌≡◌, ◌∙◌, ℕ, List, [], ◌∷◌, Option, Some, None, Ok, IfSome, IsSome, IsSomeAnd, refl, ap, inl, inr}
 use Rattle.std.specs.List.{All}
 use Rattle.std.proofs.lemmas.List.Elements.{All-head, All-tail}
 use Rattle.layout.specs.Types.{Bytes, Digest}
@@ -13,7 +13,7 @@ use Rattle.client_releases.specs.Releasing.{IsKept, structure_record, under}
 use Rattle.client_verify.specs.State.{Ready, State, on, over, signed_over, signed_text, signing_key}
 use Rattle.client_verify.specs.Standing.{StandsAfter}
 use Rattle.client_verify.proofs.Standing.{block_stands, judged_stands}
-use Rattle.client_steps.specs.Steps.{Asks, Begins, Call, Client, Commits, HasBegun, HasHeard, HasSigned, HasTaken, Hears, IsSound, IsStep, Open, Owner, Signs, StepTaken, Takes}
+use Rattle.client_steps.specs.Steps.{Asks, Begins, Call, Client, Commits, HasBegun, HasHeard, HasResigned, HasSigned, HasTaken, Hears, IsSound, IsStep, Open, Owner, Resigns, Signs, StepTaken, Takes}
 use Rattle.client_runs.specs.Runs.{Keys, client_of, owner}
 use Rattle.honest_runs.specs.HonestRuns.{HonestEvent, IsHonestRun, events}
 use Rattle.honest_line.specs.GoingOn.{AllLeadOn, HasReply, LeadsOn}
@@ -34,6 +34,11 @@ begins s t changes laid text h =
     let is = h.declared.2 in
     (ap (λ (n : State). n.phase) is, ap (λ (n : State). n.number) is)
 
+resigns : (s t : State) (n : ℕ) (text : Bytes) → HasResigned s n (Ok text) t → LeadsOn (Open s) (Resigns n (Ok text)) (Open t)
+resigns s t n text h =
+    let is = h.resigned.2 in
+    (ap (λ (n : State). n.phase) is ∙ h.declared, ap (λ (n : State). n.number) is)
+
 signs : (s t : State) (text : Bytes) → HasSigned s (Ok text) t → LeadsOn (Open s) (Signs (Ok text)) (Open t)
 signs s t text h = go s.accepted h.ready h.signed
   where
@@ -53,6 +58,7 @@ takes_on s t block (step.Broken rule) u h = absurd u
 
 leads_on : (o : Owner) (before : Client) (call : Call) (after : Client) → IsStep o before call after → IsUnbroken call → LeadsOn before call after
 leads_on o (Open s) (Begins changes laid (Ok text)) (Open t) h u = begins s t changes laid text h
+leads_on o (Open s) (Resigns n (Ok text)) (Open t) h u = resigns s t n text h
 leads_on o (Open s) (Hears text (Ok answer)) (Open t) h u = hears s t text answer u h
 leads_on o (Open s) (Takes block (Ok answer)) (Open t) h u = takes_on s t block answer u h
 leads_on o (Open s) (Signs (Ok text)) (Open t) h u = signs s t text h

@@ -4,12 +4,11 @@ pub mod Spelled
 pub mod Sent
 pub mod Shown
 pub mod Answering
+pub mod Declined
 pub mod Genuine
 pub mod Naming
 pub mod Follows
 pub mod InHand
-pub mod OneKey
-pub mod OwnKeys
 pub mod Signing
 pub mod Stepping
 pub mod Simulated
@@ -18,5 +17,7 @@ pub mod Blocks
 pub mod Promises
 pub mod GoingOn
 pub mod Line
+pub mod Again
+pub mod Signers
 pub mod Next
 pub mod OneLine

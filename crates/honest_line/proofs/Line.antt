@@ -5,11 +5,11 @@ use Rattle.std.specs.List.{All}
 use Rattle.layout.specs.Types.{Bytes}
 use Rattle.agreement.specs.Runs.{View}
 use Rattle.agreement.specs.Lines.{IsBeginning, line}
-use Rattle.agreement.proofs.Members.{In, in_contains, of_all}
-use Rattle.client_runs.specs.Released.{hashed, released, views}
-use Rattle.client_runs.specs.Runs.{Event, Keys, public_key}
+use Rattle.agreement.proofs.Members.{In, in_contains}
+use Rattle.client_runs.specs.Released.{hashed, views}
+use Rattle.client_runs.specs.Runs.{Event, Keys, pinned}
 use Rattle.consistency_server.specs.Answers.{Call as ServerCall}
-use Rattle.fork_consistency.specs.Premises.{NoCollision, TextAddsOwnKeysOf, everybody}
+use Rattle.fork_consistency.specs.Premises.{NoCollision}
 use Rattle.fork_consistency.proofs.ByCertificates.{SuperIsHonest, first_in}
 use Rattle.honest_history.specs.Honest.{Naming}
 use Rattle.honest_history.specs.Placed.{placed}
@@ -54,20 +54,19 @@ module _ (keys : Keys) (run : List HonestEvent) (is : IsHonestRun keys run) (p :
   keeps = record {
     is_run = are_runs keys run is;
     hashed_in = all_hashed keys es;
-    own_keys = of_all (TextAddsOwnKeysOf everybody keys) (released 0 es) p.true_keys.added;
     covers = signed_named keys es (are_runs keys run is) honest;
   }
 
   pub simulated : Simulates keys naming texts grounds (history run) es
   simulated = simulates keys naming texts grounds run is keeps
 
-  pub line_of : (x : View) → In x (views es) → IsBeginning (line (views es) x) (placed (public_key keys 0) (history run))
+  pub line_of : (x : View) → In x (views es) → IsBeginning (line (views es) x) (placed (pinned keys) (history run))
   line_of x i =
       let s = simulated in
       let there = subst (λ (vs : List View). In x vs) (sym s.views_are) i in
-      let begins = (one_line (public_key keys) naming grounds.is_naming s.moves s.is).lines x (in_contains x (shown_views s.moves) there) in
-      subst (λ (vs : List View). IsBeginning (line vs x) (placed (public_key keys 0) (history run))) s.views_are
-      (subst (λ (cs : List ServerCall). IsBeginning (line (shown_views s.moves) x) (placed (public_key keys 0) cs)) s.calls_are begins)
+      let begins = (one_line (pinned keys) naming grounds.is_naming s.moves s.is).lines x (in_contains x (shown_views s.moves) there) in
+      subst (λ (vs : List View). IsBeginning (line vs x) (placed (pinned keys) (history run))) s.views_are
+      (subst (λ (cs : List ServerCall). IsBeginning (line (shown_views s.moves) x) (placed (pinned keys) cs)) s.calls_are begins)
 
   pub good : IsGoodRun keys run
   good = record { is_run = is; apart = p.no_collision; true_keys = p.true_keys }

@@ -21,7 +21,7 @@ use Rattle.agreement.specs.Runs.{View, user_of}
 use Rattle.agreement.proofs.Members.{In, contains_in, in-filter, in-kept, in-left, in-map, in-right, in_contains, map-in}
 use Rattle.client_steps.specs.Steps.{Asks, Client, Open, Takes}
 use Rattle.client_runs.specs.Released.{hashed, hashed_at, views}
-use Rattle.client_runs.specs.Runs.{Event, IsRun, Keys, client_of, public_key}
+use Rattle.client_runs.specs.Runs.{Event, IsRun, Keys, client_of, pinned}
 use Rattle.fork_consistency.specs.Handles.{NamesTableAmong, told_by_texts}
 use Rattle.fork_consistency.specs.Premises.{AddsOwnKeys, NoCollision, PinnedIsKey, Premises}
 use Rattle.fork_consistency.proofs.Among.{AreAmong, agrees_within, among_kept, are_within}
@@ -76,7 +76,7 @@ taken_in texts u text step after older inside = inside text (inl refl)
 
 module _ (keys : Keys) (run : List Event) (is : IsRun keys run) (honest : SuperIsHonest keys run) where
   abbrev key : Key
-  key = public_key keys 0
+  key = pinned keys
 
   abbrev texts : List Bytes
   texts = hashed keys run
@@ -127,7 +127,7 @@ module _ (keys : Keys) (run : List Event) (is : IsRun keys run) (honest : SuperI
       in_contains (named_by x) (naming_of keys run) (inr (map-in named_by supers x (in-kept (λ (y : View). user_of y == 0) x (views run) i (eq-eqb (user_of x) 0 zero))))
 
   -- The handle of the beginning names the table of the beginning, and no handle names two.
-  pub is_naming : IsNaming (public_key keys) (naming_of keys run)
+  pub is_naming : IsNaming (pinned keys) (naming_of keys run)
   is_naming = record {
     first = in_contains (first_named key) (naming_of keys run) (inl refl);
     once = λ h t u a b. same_table h t u (named_is h t a) (named_is h u b);

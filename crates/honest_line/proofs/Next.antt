@@ -1,5 +1,5 @@
 -- What would come next in an honest run is taken.
-use Rattle.std.proofs.Common.{◌≡◌, Bool, true, false, ◌==◌, List, [], ◌∷◌, ◌++◌, Option, Some, None, Ok, IfSome, IsSomeAnd, refl, sym, subst, inl, inr, if◌then◌else◌}
+use Rattle.std.proofs.Common.{◌≡◌, ◌≢◌, Bool, true, false, ◌==◌, List, [], ◌∷◌, ◌++◌, Option, Some, None, Ok, IfSome, IsSomeAnd, refl, sym, subst, inl, inr, if◌then◌else◌}
 use Rattle.std.specs.Prelude.{◌⊎◌}
 use Rattle.std.specs.List.{flat_map}
 use Rattle.std.specs.Option.{option_and_then, option_map}
@@ -13,22 +13,24 @@ use Rattle.client_verify.specs.declared.step.Step.TheVariants as step
 use Rattle.client_verify.specs.declared.view.Looking.{Looking}
 use Rattle.client_verify.specs.Judged.{Handed}
 use Rattle.client_verify.specs.Looked.{Given}
-use Rattle.client_verify.specs.State.{AcceptedView, Checked, State, asked_of}
+use Rattle.client_verify.specs.State.{AcceptedView, Checked, Ready, State, asked_of, signer_of}
 use Rattle.client_steps.specs.Steps.{Call, Client, Closed, Gives, HasGiven, HasTaken, IsSound, IsStep, Open, Takes}
 use Rattle.client_runs.specs.Released.{hashed, hashed_at, released, released_by, tried_view}
-use Rattle.client_runs.specs.Runs.{Event, Keys, client_of, owner, public_key}
+use Rattle.client_runs.specs.Runs.{Event, Keys, client_of, owner, pinned}
 use Rattle.agreement.proofs.Members.{In, in-append, in-left, in-right, of_all, to_all}
 use Rattle.fork_consistency.specs.Premises.{TextAddsOwnKeysOf, everybody}
 use Rattle.fork_consistency.proofs.Holds.{Holds}
 use Rattle.fork_consistency.proofs.Moves.{holds_at, signed_of}
 use Rattle.honest_runs.specs.HonestRuns.{HonestEvent, IsHandedIn, IsHonestRun, IsHonestStep, events, history, put_with, stored}
 use Rattle.honest_runs.proofs.Events.{are_runs, with_step}
-use Rattle.honest_line.specs.GoingOn.{CanGoOn, ClientCanGoOn, HasGoodBlock, LooksAtGoodBlock}
+use Rattle.honest_line.specs.GoingOn.{CanGoOn, ClientCanGoOn, HasGoodBlock, HasListedKeys, LooksAtGoodBlock}
 use Rattle.honest_line.specs.OneLine.{IsUnbroken, all_texts}
 use Rattle.honest_line.proofs.Naming.{IsAssumed}
 use Rattle.honest_line.proofs.Blocks.{asked_of_look, asked_of_reply, fewer_collide}
 use Rattle.honest_line.proofs.Line.{good, grounds, keeps, naming, promised, simulated, texts}
-use Rattle.honest_line.proofs.Promises.{next_commit, next_reply}
+use Rattle.honest_line.proofs.Again.{good_again}
+use Rattle.honest_line.proofs.Promises.{next_commit, next_pending, next_reply}
+use Rattle.honest_line.proofs.Signers.{has_signer}
 use Rattle.honest_line.proofs.Put.{put_texts, stored_among}
 
 module _ (keys : Keys) (run : List HonestEvent) (is : IsHonestRun keys run) (p : IsAssumed keys run) (u : User) (s : State) (open_is : client_of u (events run) ≡ Open s) where
@@ -36,7 +38,7 @@ module _ (keys : Keys) (run : List HonestEvent) (is : IsHonestRun keys run) (p :
   es = events run
 
   abbrev key : Key
-  key = public_key keys 0
+  key = pinned keys
 
   sound : IsSound (Open s)
   sound =
@@ -128,11 +130,18 @@ module _ (keys : Keys) (run : List HonestEvent) (is : IsHonestRun keys run) (p :
   pub can_go_on : CanGoOn keys run u s
   can_go_on = record {
     update = next_reply keys (naming keys run is p) (texts keys run is p) (grounds keys run is p) (history run) es (simulated keys run is p) (keeps keys run is p) u s open_is;
+    pending = next_pending keys (naming keys run is p) (texts keys run is p) (grounds keys run is p) (history run) es (simulated keys run is p) (keeps keys run is p) u s open_is;
+    resign = λ declined below n last new again. good_again keys run is p u s open_is declined n new again last below;
     block = of_reply s.checked refl (asked_of_reply keys run (good keys run is p) u s open_is);
     look = of_view s.view refl (asked_of_look keys run (good keys run is p) u s open_is);
+    sign = of_accepted s.accepted refl;
     commit = next_commit keys (naming keys run is p) (texts keys run is p) (grounds keys run is p) (history run) es (simulated keys run is p) (keeps keys run is p) u s open_is;
   }
     where
+      of_accepted : (o : Option Ready) → s.accepted ≡ o → IfSome o (λ r. HasListedKeys (pinned keys) (history run) u s → signer_of s r ≢ None)
+      of_accepted None at = tt
+      of_accepted (Some y) at = has_signer keys run is p u s open_is y at
+
       of_reply : (o : Option Checked) → s.checked ≡ o → IfSome o (λ k. IsThere (asked_of k).digest) → IfSome o (HasGoodBlock run s)
       of_reply None at w = tt
       of_reply (Some k) at w = (w.0, w.1, next_block k at w.0 w.1)

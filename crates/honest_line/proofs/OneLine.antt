@@ -1,13 +1,18 @@
 -- Over each honest run all stand in one line.
-use Rattle.std.proofs.Common.{ℕ, List, replicate, Result, Ok, Err, IfOk}
+use Rattle.std.proofs.Common.{ℕ, ◌+◌, ◌*◌, ◌==◌, Bool, true, false, if◌then◌else◌, List, [], ◌∷◌, replicate, Result, Ok, Err, IfOk}
+use Rattle.std.specs.List.{All}
 use Rattle.std.proofs.lemmas.List.{length-replicate}
+use Rattle.std.proofs.lemmas.List.Elements.{All-cons, All-nil}
+use Rattle.layout.specs.Types.{User}
+use Rattle.lms_sign.specs.Secret.{Secret}
 use Rattle.lms_sign.proofs.Drawn.{drawn_has}
+use Rattle.client_releases.specs.Releasing.{no_secret}
 use Rattle.agreement.specs.Lines.{IsBeginning, line}
 use Rattle.agreement.proofs.Members.{to_all}
 use Rattle.client_runs.specs.declared.world.Answer.{Answer}
-use Rattle.client_runs.specs.Carried.{script_keys}
+use Rattle.client_runs.specs.Carried.{script_key, script_keys}
 use Rattle.client_runs.specs.Released.{views}
-use Rattle.client_runs.specs.Runs.{Keys, public_key}
+use Rattle.client_runs.specs.Runs.{Keys, pinned}
 use Rattle.client_runs.proofs.Once.{certificates_once, leaves_once, structures_once}
 use Rattle.fork_consistency.proofs.Consistent.{consistent}
 use Rattle.fork_consistency.proofs.ScriptKeys.{pinned_fits}
@@ -16,7 +21,7 @@ use Rattle.honest_runs.specs.declared.step.HonestStep.{HonestStep}
 use Rattle.honest_runs.specs.HonestRuns.{HonestEvent, IsHonestRun, events, history}
 use Rattle.honest_runs.specs.Served.{AreServed}
 use Rattle.honest_runs.proofs.Events.{are_runs}
-use Rattle.honest_line.specs.OneLine.{AreKeys, AreOnOneLine, EachHonestRun, IsOneLine}
+use Rattle.honest_line.specs.OneLine.{AreKeys, AreOnOneLine, EachHonestRun, IsOneLine, IsSecret}
 use Rattle.honest_line.proofs.GoingOn.{all_lead_on}
 use Rattle.honest_line.proofs.Line.{apart, line_of, promised}
 use Rattle.honest_line.proofs.Naming.{IsAssumed, premises}
@@ -30,7 +35,7 @@ on_one_line keys run is p =
       statuses = steps.1;
       next = each_can_go_on keys run is p;
       lead_on = all_lead_on keys run is steps.0;
-      lines = to_all (λ x. IsBeginning (line (views (events run)) x) (placed (public_key keys 0) (history run))) (views (events run)) (line_of keys run is p);
+      lines = to_all (λ x. IsBeginning (line (views (events run)) x) (placed (pinned keys) (history run))) (views (events run)) (line_of keys run is p);
       consistent = consistent keys (events run) (are_runs keys run is) p.true_keys.pinned (premises keys run is (apart keys run is p) p.true_keys);
     }
 
@@ -38,17 +43,29 @@ pub each_honest_run : EachHonestRun
 each_honest_run keys run is are p = on_one_line keys run is (record {
   no_collision = p.no_collision;
   true_keys = record { pinned = are.pinned; added = p.added };
-  signers = λ u. (are.identifiers u, are.leaves u);
+  signers = λ u n small. (let secret = are.each u n no_secret small in (secret.identifier, secret.leaves));
 })
 
 -- ---- steps that are carried out
 
+script_secret : (u : User) (n : ℕ) → IsSecret (script_key u n)
+script_secret u n = record {
+  identifier = length-replicate {A = ℕ} 16 (u + 64 * n);
+  leaves = drawn_has (replicate 32 u) (replicate 16 (u + 64 * n));
+}
+
 script_keys_are : AreKeys script_keys
 script_keys_are = record {
   pinned = pinned_fits;
-  identifiers = λ u. length-replicate {A = ℕ} 16 u;
-  leaves = λ u. drawn_has (replicate 32 u) (replicate 16 u);
+  each = λ u. all_of u (u == 0);
 }
+  where
+    one : (u : User) (n : ℕ) (later : List Secret) → All IsSecret later → All IsSecret (script_key u n ∷ later)
+    one u n later all = All-cons IsSecret (script_key u n) later (script_secret u n) all
+
+    all_of : (u : User) (b : Bool) → All IsSecret (if b then script_key u 0 ∷ [] else script_key u 0 ∷ script_key u 1 ∷ script_key u 2 ∷ script_key u 3 ∷ [])
+    all_of u true = one u 0 [] (All-nil IsSecret)
+    all_of u false = one u 0 (script_key u 1 ∷ script_key u 2 ∷ script_key u 3 ∷ []) (one u 1 (script_key u 2 ∷ script_key u 3 ∷ []) (one u 2 (script_key u 3 ∷ []) (one u 3 [] (All-nil IsSecret))))
 
 carried : {A : Type 0} (steps : List (HonestStep A)) (answers : List (Answer A)) → AreServed steps answers → IsOneLine steps answers
 carried steps answers c =

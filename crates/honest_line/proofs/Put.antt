@@ -10,7 +10,7 @@ use Rattle.client_tree.specs.Held.{Block, held, keeping, keeping_all}
 use Rattle.client_tree.proofs.HeldLaws.{with_new, with_old}
 use Rattle.client_releases.specs.declared.error.ClientError.{ClientError}
 use Rattle.client_releases.specs.declared.error.ClientError.TheVariants as error
-use Rattle.client_steps.specs.Steps.{Begins, Caches, Call, Client, Closes, Commits, Crashes, Gives, Hears, Looks, Opens, Signs, StepTaken, Takes}
+use Rattle.client_steps.specs.Steps.{Begins, Caches, Call, Client, Closes, Commits, Crashes, Gains, Gives, Hears, Looks, Opens, Resigns, Signs, StepTaken, Takes}
 use Rattle.client_runs.specs.Released.{stored_texts, unless_memory}
 use Rattle.client_runs.specs.Runs.{Event, Keys, client_of}
 use Rattle.agreement.proofs.Members.{In, in-append, in-left, in-right, in_contains}
@@ -93,6 +93,8 @@ module _ (keys : Keys) where
     call_put (Gives block answer) handed put t i = found_block (looked_for_by client) block handed t (in_answer answer (option_to_list block) t i)
     call_put (Opens answer) handed put t i = absurd i
     call_put Closes handed put t i = absurd i
+    call_put Gains handed put t i = absurd i
+    call_put (Resigns n answer) handed put t i = absurd i
     call_put Crashes handed put t i = absurd i
     call_put (Signs answer) handed put t i = absurd i
     call_put (Commits st) handed put t i = absurd i

@@ -1,17 +1,20 @@
 -- An honest run is a dialogue: what its clients do are moves, which send what the server carries out.
-use Rattle.std.proofs.Common.{◌≡◌, ◌≢◌, Bool, true, false, ◌==◌, List, [], ◌∷◌, ◌++◌, length, Option, Some, None, Result, Ok, Err, IfSome, refl, sym, ap, ◌∙◌, subst, inl, inr, if◌then◌else◌, option_to_list}
+use Rattle.std.proofs.Common.{◌≡◌, ◌≢◌, Bool, true, false, ◌==◌, ℕ, List, [], ◌∷◌, ◌++◌, length, Option, Some, None, Result, Ok, Err, IfSome, IsSomeAnd, refl, sym, ap, ◌∙◌, subst, inl, inr, if◌then◌else◌, option_to_list}
 use Rattle.std.specs.Prelude.{option_and_then}
 use Rattle.std.specs.List.{flat_map}
 use Rattle.std.proofs.lemmas.Bool.{eq-eqb, eqb-true, eqb-false, ne_eqb}
 use Rattle.layout.specs.Types.{Bytes, Digest, Handle, Key, User}
 use Rattle.itable.specs.File.{NoneCollide}
-use Rattle.principals.specs.Table.{Table}
+use Rattle.principals.specs.Table.{Table, key_at}
 use Rattle.principals.specs.TableText.{table}
+use Rattle.version_order.specs.Plan.{Plan}
 use Rattle.version_order.specs.Structure.{Structure}
+use Rattle.version_order.specs.Vector.{version_of}
 use Rattle.update_cert.specs.Change.{Change}
 use Rattle.update_cert.specs.Cert.{Cert, cert}
 use Rattle.tree_parts.specs.Blocks.{ForEachReading}
 use Rattle.pending_list.specs.declared.signed.Signed.{Signed}
+use Rattle.pending_list.specs.Groups.{table_version}
 use Rattle.pending_list.specs.Reply.{reply}
 use Rattle.reply_rules.specs.Lists.{Lists, items}
 use Rattle.reply_rules.specs.Rules.{lists}
@@ -24,71 +27,69 @@ use Rattle.client_releases.specs.declared.error.ClientError.TheVariants as error
 use Rattle.client_releases.specs.declared.phase.Phase.{Phase}
 use Rattle.client_releases.specs.declared.phase.Phase.TheVariants as phase
 use Rattle.client_verify.specs.State.{Ready, State}
-use Rattle.client_steps.specs.Steps.{Asks, Begins, Caches, Call, Client, Closed, Closes, Commits, Crashes, Gives, HasBegun, HasCommitted, HasHeard, HasSigned, HasTaken, Hears, IsSound, IsStep, Looks, Open, Opens, Signs, StepTaken, Takes}
+use Rattle.client_steps.specs.Steps.{Asks, Begins, Caches, Call, Client, Closed, Closes, Commits, Crashes, Gains, Gives, HasBegun, HasCommitted, HasHeard, HasResigned, HasSigned, HasTaken, Hears, IsSound, IsStep, Looks, Open, Opens, Resigns, Signs, StepTaken, Takes}
 use Rattle.agreement.specs.Runs.{View, user_of}
 use Rattle.agreement.specs.Worlds.{NamesTable}
 use Rattle.agreement.proofs.Formed.{cert_fits}
-use Rattle.agreement.proofs.Members.{In, in-left, in-right, to_all}
-use Rattle.release_runs.proofs.Members.{In as Released_in}
+use Rattle.agreement.proofs.Members.{In, contains_in, in-left, in-right, map-in, to_all}
 use Rattle.release_runs.proofs.Runs as low_runs
 use Rattle.release_runs.proofs.Stories.{text}
 use Rattle.client_runs.specs.Clients.{certificate_in, structure_in}
 use Rattle.client_runs.specs.Released.{accepted_by, hashed_at, released as released_in, released_by, tried_by, tried_view, views}
-use Rattle.client_runs.specs.Runs.{Event, IsRun, Keys, client_of, owner, public_key}
+use Rattle.client_runs.specs.Runs.{Event, IsRun, Keys, client_of, owner, pinned}
 use Rattle.client_runs.proofs.Lowering.{low_owner, of_declared, with_ready}
 use Rattle.client_runs.proofs.Quiet as quiet
 use Rattle.client_runs.proofs.Replies.{IsGoodBy, Kept, kept, of_lists}
 use Rattle.consistency_server.specs.declared.call.CallKind.{CallKind}
 use Rattle.consistency_server.specs.declared.call.CallKind.TheVariants.{Update, Commit}
 use Rattle.consistency_server.specs.Answers.{Call as ServerCall}
+use Rattle.consistency_server.specs.Event as placed
 use Rattle.consistency_server.specs.Event.{Placed}
-use Rattle.consistency_server.specs.History.{commit_of, is_carried_out, update_of}
+use Rattle.consistency_server.specs.State.{next_item, next_placement, pending_after, state_after, table_after}
+use Rattle.consistency_server.specs.History.{commit_of, events as server_events, is_carried_out, update_of}
 use Rattle.fork_consistency.proofs.Holds.{Holds}
 use Rattle.fork_consistency.proofs.Judging.{unbroken}
 use Rattle.fork_consistency.proofs.Moves.{holds_at, signed_of}
 use Rattle.fork_consistency.proofs.Origins.{IsReady, IsTold, KnowsClient, known_at}
 use Rattle.fork_consistency.specs.Handles.{told_by_texts}
-use Rattle.fork_consistency.specs.Premises.{TextAddsOwnKeysOf, everybody}
 use Rattle.honest_history.specs.Honest.{Names, Naming}
 use Rattle.honest_history.specs.Placed.{table_to}
 use Rattle.honest_history.specs.Served.{IsTableOf}
 use Rattle.honest_history.proofs.Named.{has_table, table_of_reply}
-use Rattle.honest_history.proofs.Reached.{Reached, reach, reached_before}
+use Rattle.honest_history.proofs.Good.{item_of, pending_in}
+use Rattle.honest_history.proofs.Reached.{Reached, reach, reached, reached_before, still_kept}
 use Rattle.honest_history.proofs.Replies.{unbroken_at}
+use Rattle.honest_history.proofs.Tabled.{plan_key}
+use Rattle.honest_history.proofs.Tables.{key_for}
 use Rattle.reply_check.specs.FirstBroken.{lists_break}
 use Rattle.honest_dialogues.specs.GoingOn.{events_of}
-use Rattle.honest_dialogues.specs.Dialogue.{Act, Commits as Sends_structure, Declared, IsDialogue, IsNaming, IsReply, MayMove, Move, Sealed, Stage, Updates, WasAnswered, call_by, calls, commit_by, stage_of, success, update_by, views as shown_views}
+use Rattle.honest_dialogues.specs.Dialogue.{Act, Commits as Sends_structure, Declared, HearsDeclined, IsDialogue, IsNaming, IsNextCert, IsReply, LastAnswered, MayMove, Move, Sealed, Stage, Updates, WasAnswered, call_by, calls, commit_by, stage_of, success, update_by, views as shown_views}
 use Rattle.honest_dialogues.specs.Signing.{HasRecords}
+use Rattle.honest_dialogues.proofs.Accepting.{one_table}
 use Rattle.honest_dialogues.proofs.Dialogues.{in_step}
 use Rattle.honest_dialogues.proofs.Reading.{each_read}
 use Rattle.honest_dialogues.proofs.Stages.{IsDeclaredAt, IsHeard, StandsAt}
-use Rattle.honest_runs.specs.HonestRuns.{Exchange, HonestEvent, IsHandedIn, IsHonestRun, carried_out, events, history, sent_by, stored}
+use Rattle.honest_runs.specs.HonestRuns.{Exchange, HonestEvent, IsHandedIn, IsHonestRun, LastAnswered as WasLast, carried_out, events, history, sent_by, stored}
 use Rattle.honest_runs.proofs.Events.{events_with, with_exchange, with_step}
 use Rattle.honest_line.proofs.Answering.{commit_answered, reply_answered}
-use Rattle.honest_line.proofs.Follows.{Follows, Goes, in_phase_at, signed_cert, signed_structure}
+use Rattle.honest_line.proofs.Declined.{last_answered}
+use Rattle.honest_line.proofs.Follows.{Follows, Goes, IsMove, in_phase_at, signed_cert, signed_structure}
 use Rattle.honest_line.proofs.InHand as hand
 use Rattle.honest_line.proofs.Signing.{CanSign}
 use Rattle.honest_line.proofs.Stepping as stepping
 
--- members as the runs of releases have them
-in_too : {A : Type 0} (x : A) (xs : List A) → Released_in x xs → In x xs
-in_too x [] i = i
-in_too x (y ∷ ys) (inl e) = inl e
-in_too x (y ∷ ys) (inr i) = inr (in_too x ys i)
-
 -- What an honest run is compared with: naming of handles, and texts of which no two have one digest.
 pub record Grounds (keys : Keys) (naming : Naming) (texts : List Bytes) : Type 0 where
   pub signers : (u : User) → CanSign keys u
-  pub is_naming : IsNaming (public_key keys) naming
+  pub is_naming : IsNaming (pinned keys) naming
   pub apart : NoneCollide texts texts
-  pub first_in : (t : Bytes) → In t (first_texts (public_key keys 0)) → In t texts
+  pub first_in : (t : Bytes) → In t (first_texts (pinned keys)) → In t texts
   pub one_named : (h : Handle) (t users : Table) → table.Fits users → Names naming h t → ForEachReading (told_by_texts texts) (λ reads. NamesTable reads h users) → users ≡ t
 
 -- What a run's events keep to.
 pub record KeepsTo (keys : Keys) (naming : Naming) (texts : List Bytes) (es : List Event) : Type 0 where
   pub is_run : IsRun keys es
   pub hashed_in : (t : Bytes) → In t (flat_map hashed_at es) → In t texts
-  pub own_keys : (t : Bytes) → In t (released_in 0 es) → TextAddsOwnKeysOf everybody keys t
   pub covers : (v : View) → In v (views es) → user_of v ≡ 0 → Names naming v.signed.handle v.table
 
 -- so do those before the latest
@@ -96,28 +97,28 @@ keeps_older : (keys : Keys) (naming : Naming) (texts : List Bytes) (e : Event) (
 keeps_older keys naming texts e es k = record {
   is_run = k.is_run.2;
   hashed_in = λ t i. k.hashed_in t (in-right t (hashed_at e) (flat_map hashed_at es) i);
-  own_keys = λ t i. k.own_keys t (later t i);
   covers = λ v i. k.covers v (in-right v (accepted_by e.call (client_of e.user es) e.after (tried_view e.user es)) (views es) i);
 }
-  where
-    later : (t : Bytes) → In t (released_in 0 es) → In t (released_in 0 (e ∷ es))
-    later t i = go (e.user == 0)
-      where
-        go : (b : Bool) → In t (if b then released_by e.call e.after ++ released_in 0 es else released_in 0 es)
-        go true = in-right t (released_by e.call e.after) (released_in 0 es) i
-        go false = i
 
 module _ (keys : Keys) (naming : Naming) (texts : List Bytes) (g : Grounds keys naming texts) where
-  abbrev pk : User → Key
-  pk = public_key keys
+  abbrev pk : Key
+  pk = pinned keys
 
   -- the table that is read of such a reply is the one that user 0's handle names
-  pub table_read : (x : Lists) (read known : Table) → IsTableOf naming (pk 0) x known → lists (of_lists x) ≡ true → reply.Fits (of_lists x) → IsTold texts g.apart (pk 0) x read → IsTableOf naming (pk 0) x read
+  pub table_read : (x : Lists) (read known : Table) → IsTableOf naming pk x known → lists (of_lists x) ≡ true → reply.Fits (of_lists x) → IsTold texts g.apart pk x read → IsTableOf naming pk x read
   table_read x read known of ordered fits told =
-      let h = handle_in (pk 0) x.structures 0 in
+      let h = handle_in pk x.structures 0 in
       let same : told.users ≡ of.users = g.one_named h of.users told.users told.fits of.named told.named in
-      each_read naming (pk 0) x told.users read told.void ordered (to_all (λ i. cert.Fits i.cert) (items x) (λ i j. cert_fits (of_lists x) fits i j))
+      each_read naming pk x told.users read told.void ordered (to_all (λ i. cert.Fits i.cert) (items x) (λ i j. cert_fits (of_lists x) fits i j))
       (subst (λ (w : Table). Names naming h w) (sym same) of.named) told.pending
+
+  -- The key of its user that the table of an accepted reply has at the number of the own plan is one that the server's
+  -- table has there still.
+  pub record HasNamed (sent : List ServerCall) (u : User) (y : Ready) : Type 0 where
+    pub key : Key
+    pub named : key_at u (version_of 0 y.lists.own.plan.vector) y.table ≡ Some key
+    pub still : key_at u (version_of 0 y.lists.own.plan.vector) (table_after pk (server_events pk sent)) ≡ Some key
+    pub super : u ≡ 0 → key ≡ pk
 
   -- The run so far is this dialogue.
   pub record Simulates (sent : List ServerCall) (es : List Event) : Type 0 where
@@ -218,30 +219,30 @@ module _ (keys : Keys) (naming : Naming) (texts : List Bytes) (g : Grounds keys 
 
     -- it is to an operation that the server placed
     module _ (u : User) (last : Option (Signed Structure)) (c : Signed Cert) (x : Lists) (at : stage_of u s.moves ≡ Declared last c (Some x)) where
-      pub heard : IsHeard (pk 0) (events_of pk s.moves) c x
+      pub heard : IsHeard pk (events_of pk s.moves) c x
       heard =
           let stands = (in_step pk naming g.is_naming s.moves s.is).stands u in
           let d : IsDeclaredAt pk (events_of pk s.moves) u last c (Some x) = subst (λ (b : Stage). StandsAt pk naming (events_of pk s.moves) (shown_views s.moves) u b) at stands in
           d.heard_is x refl
 
-      placed_then : Reached naming (pk 0) (Placed c ∷ heard.earlier)
+      placed_then : Reached naming pk (Placed c ∷ heard.earlier)
       placed_then =
           let i = in_step pk naming g.is_naming s.moves s.is in
-          let now : Reached naming (pk 0) (events_of pk s.moves) = reach naming (pk 0) (calls s.moves) i.honest.bytes i.honest.honest in
-          reached_before naming (pk 0) heard.since.0 (Placed c ∷ heard.earlier) (subst (Reached naming (pk 0)) heard.since.1 now)
+          let now : Reached naming pk (events_of pk s.moves) = reach naming pk (calls s.moves) i.honest.bytes i.honest.honest in
+          reached_before naming pk heard.since.0 (Placed c ∷ heard.earlier) (subst (Reached naming pk) heard.since.1 now)
 
       abbrev pub placed_table : Table
-      placed_table = table_to (pk 0) heard.earlier c
+      placed_table = table_to pk heard.earlier c
 
       -- its table is the one after the operation
-      pub table_then : IsTableOf naming (pk 0) x placed_table
+      pub table_then : IsTableOf naming pk x placed_table
       table_then =
-          subst (λ (l : Lists). IsTableOf naming (pk 0) l placed_table) (sym heard.lists)
-          (table_of_reply naming (pk 0) heard.earlier c (has_table naming (pk 0) g.is_naming.first (Placed c ∷ heard.earlier) placed_then))
+          subst (λ (l : Lists). IsTableOf naming pk l placed_table) (sym heard.lists)
+          (table_of_reply naming pk heard.earlier c (has_table naming pk g.is_naming.first (Placed c ∷ heard.earlier) placed_then))
 
       -- by which no rule is broken
       pub unbroken_then : lists_break placed_table x ≡ None
-      unbroken_then = ap (lists_break placed_table) heard.lists ∙ (unbroken_at naming (pk 0) g.is_naming.first heard.earlier c placed_then).by_table
+      unbroken_then = ap (lists_break placed_table) heard.lists ∙ (unbroken_at naming pk g.is_naming.first heard.earlier c placed_then).by_table
 
     -- ---- what a client knows
 
@@ -249,15 +250,15 @@ module _ (keys : Keys) (naming : Naming) (texts : List Bytes) (g : Grounds keys 
       pub own : Holds (owner keys u) es (Open t) (released_in u es) (signed_of u es) (tried_view u es)
       own = subst (λ (c : Client). Holds (owner keys u) es c (released_in u es) (signed_of u es) (tried_view u es)) is (holds_at keys u es k.is_run)
 
-      pub knows : KnowsClient texts g.apart (pk 0) (Open t)
-      knows = subst (λ (c : Client). KnowsClient texts g.apart (pk 0) c) is (known_at keys texts g.apart g.first_in u es k.is_run k.hashed_in).0
+      pub knows : KnowsClient texts g.apart pk (Open t)
+      knows = subst (λ (c : Client). KnowsClient texts g.apart pk c) is (known_at keys texts g.apart g.first_in u es k.is_run k.hashed_in).0
 
       module _ (y : Ready) (ready : t.accepted ≡ Some y) where
         good : IsGoodBy es (record { user = t.user; pinned = t.pinned; last = t.last; declared = t.text }) y.lists y.table
         good = subst (λ (r : Option Ready). IfSome r (λ z. IsGoodBy es (record { user = t.user; pinned = t.pinned; last = t.last; declared = t.text }) z.lists z.table)) ready own.own.replies.accepted
 
-        made : IsReady texts g.apart (pk 0) y
-        made = subst (λ (r : Option Ready). IfSome r (IsReady texts g.apart (pk 0))) ready knows.accepted
+        made : IsReady texts g.apart pk y
+        made = subst (λ (r : Option Ready). IfSome r (IsReady texts g.apart pk)) ready knows.accepted
 
         is_declared : t.phase ≡ phase.Declared
         is_declared = (of_declared t t y ready own.own.always).is_declared
@@ -269,10 +270,38 @@ module _ (keys : Keys) (naming : Naming) (texts : List Bytes) (g : Grounds keys 
             let same : d.2 ≡ Some y.lists = subst (λ (r : Option Ready). IfSome r (λ a. d.2 ≡ Some a.lists)) ready d.5.accepted in
             (signed_cert keys naming u d.0 d.1, d.3 ∙ ap (Declared t.last (signed_cert keys naming u d.0 d.1)) same)
 
-        pub accepted_table : IsTableOf naming (pk 0) y.lists y.table
+        pub accepted_table : IsTableOf naming pk y.lists y.table
         accepted_table =
             let then_is = table_then u t.last heard_now.0 y.lists heard_now.1 in
             table_read y.lists y.table (placed_table u t.last heard_now.0 y.lists heard_now.1) then_is (unbroken (record { user = t.user; pinned = t.pinned; last = t.last; declared = t.text }) (of_lists y.lists) good.judged.unbroken).in_order good.judged.fits made.told
+
+        -- it is the one that the server had when the operation was placed
+        pub accepted_named : HasNamed sent u y
+        accepted_named =
+            let c = heard_now.0 in
+            let h = heard u t.last c y.lists heard_now.1 in
+            let es_now : List placed.Event = events_of pk s.moves in
+            let i = in_step pk naming g.is_naming s.moves s.is in
+            let reached_now : Reached naming pk es_now = reach naming pk (calls s.moves) i.honest.bytes i.honest.honest in
+            let now = reached naming pk es_now reached_now in
+            let good_then = (reached naming pk (Placed c ∷ h.earlier) (placed_then u t.last c y.lists heard_now.1)).0 in
+            let own = next_item (state_after pk h.earlier) c in
+            let opened = (pending_in pk es_now now.0 own (map-in item_of (pending_after pk es_now) (next_placement (state_after pk h.earlier) c) (contains_in (next_placement (state_after pk h.earlier) c) (pending_after pk es_now) h.pending))).1 in
+            let kept = still_kept pk es_now h.earlier c now.1 h.since opened in
+            let signed = good_then.tabled.signed own (inl refl) in
+            let plan : y.lists.own.plan ≡ own.plan = ap (λ (l : Lists). l.own.plan) h.lists in
+            let user : own.plan.user ≡ u = (subst (λ (b : Stage). StandsAt pk naming (events_of pk s.moves) (shown_views s.moves) u b) heard_now.1 (i.stands u)).next.user in
+            let same = one_table pk naming g.is_naming y.lists y.table (table_to pk h.earlier c) accepted_table (table_then u t.last c y.lists heard_now.1) in
+            let at_plan = λ (w : Table). ap (λ (p : Plan). key_at u (version_of 0 p.vector) w) plan ∙ ap (λ (v : User). key_at v (version_of 0 own.plan.vector) w) (sym user) in
+            record {
+              key = signed.0;
+              named = ap (λ (w : Table). key_at u (version_of 0 y.lists.own.plan.vector) w) same ∙ at_plan (table_to pk h.earlier c) ∙ plan_key (table_to pk h.earlier c) pk own.plan good_then.super_key ∙ signed.1;
+              still =
+                  subst (λ (cs : List ServerCall). key_at u (version_of 0 y.lists.own.plan.vector) (table_after pk (server_events pk cs)) ≡ Some signed.0) s.calls_are
+                  (at_plan (table_after pk es_now) ∙ plan_key (table_after pk es_now) pk own.plan now.0.super_key ∙ kept.keys signed.0 signed.1);
+              super = λ zero.
+                  (let one : Some signed.0 ≡ Some pk = sym signed.1 ∙ ap (λ (v : User). key_for (table_to pk h.earlier c) v (table_version own.plan)) (user ∙ zero) ∙ good_then.super_key (table_version own.plan) in cc one);
+            }
 
         pub accepted_records : HasRecords y
         accepted_records = record {
@@ -286,11 +315,6 @@ module _ (keys : Keys) (naming : Naming) (texts : List Bytes) (g : Grounds keys 
   module _ (sent : List ServerCall) (es : List Event) (s : Simulates sent es) (e : Event) (k : KeepsTo keys naming texts (e ∷ es)) where
     abbrev u : User
     u = e.user
-
-    has_own : u ≡ 0 → (t : Bytes) → Released_in t (released_by e.call e.after ++ released_in u es) → TextAddsOwnKeysOf everybody keys t
-    has_own zero t i =
-        let here : In t (released_by e.call e.after ++ released_in 0 es) = subst (λ (w : User). In t (released_by e.call e.after ++ released_in w es)) zero (in_too t (released_by e.call e.after ++ released_in u es) i) in
-        k.own_keys t (subst (λ (b : Bool). In t (if b then released_by e.call e.after ++ released_in 0 es else released_in 0 es)) (sym (eq-eqb e.user 0 zero)) here)
 
     covers : (v : View) → In v (accepted_by e.call (client_of u es) e.after (tried_view u es)) → user_of v ≡ 0 → Names naming v.signed.handle v.table
     covers v i = k.covers v (in-left v (accepted_by e.call (client_of u es) e.after (tried_view u es)) (views es) i)
@@ -318,7 +342,7 @@ module _ (keys : Keys) (naming : Naming) (texts : List Bytes) (g : Grounds keys 
       views_are = s.views_are ∙ ap (λ (vs : List View). vs ++ views es) (sym no_view);
       follow = next_follow (λ w. stage_of w s.moves) f (λ w n. refl);
     }
-    moved more (inr m) = record {
+    moved more (inr (inl m)) = record {
       moves = move ∷ s.moves;
       is = (m.may, s.is);
       calls_are = ap (λ (cs : List ServerCall). cs ++ calls s.moves) m.sends ∙ ap (λ (cs : List ServerCall). more ++ cs) s.calls_are;
@@ -329,6 +353,24 @@ module _ (keys : Keys) (naming : Naming) (texts : List Bytes) (g : Grounds keys 
       where
         move : Move
         move = record { user = u; act = m.act; after = m.after }
+    moved more (inr (inr two)) = record {
+      moves = second ∷ first ∷ s.moves;
+      is = (subst (λ (b : Bool). MayMove pk naming (calls s.moves) u (if b then two.between else stage_of u s.moves) m.act m.after) (sym (eq-eqb u u refl)) m.may, (two.declined, s.is));
+      calls_are = ap (λ (cs : List ServerCall). cs ++ calls s.moves) m.sends ∙ ap (λ (cs : List ServerCall). more ++ cs) s.calls_are;
+      views_are = ap (λ (vs : List View). vs ++ shown_views s.moves) m.accepts ∙ ap (λ (vs : List View). accepted_by e.call (client_of u es) e.after (tried_view u es) ++ vs) s.views_are;
+      follow = next_follow (λ w. stage_of w (second ∷ first ∷ s.moves))
+          (subst (λ (b : Bool). Follows keys naming u e.after (released_by e.call e.after ++ released_in u es) (tried_by e.call (client_of u es) (tried_view u es)) (if b then m.after else if b then two.between else stage_of u s.moves)) (sym (eq-eqb u u refl)) m.follows)
+          (λ w n. subst (λ (b : Bool). (if b then m.after else if b then two.between else stage_of w s.moves) ≡ stage_of w s.moves) (sym (ne_eqb u w n)) refl);
+    }
+      where
+        m : IsMove keys naming u (calls s.moves) two.between e.after (released_by e.call e.after ++ released_in u es) (tried_by e.call (client_of u es) (tried_view u es)) more (accepted_by e.call (client_of u es) e.after (tried_view u es))
+        m = two.then_is
+
+        first : Move
+        first = record { user = u; act = HearsDeclined; after = two.between }
+
+        second : Move
+        second = record { user = u; act = m.act; after = m.after }
 
   -- ---- a step that asks no server
 
@@ -336,6 +378,8 @@ module _ (keys : Keys) (naming : Naming) (texts : List Bytes) (g : Grounds keys 
   abbrev IsSilent : Call → Client → Client → Type 0
   IsSilent (Hears text answer) (Open s) (Open new) = new ≡ s
   IsSilent (Commits st) (Open s) (Open new) = new ≡ s
+  IsSilent (Resigns n (Ok text)) before after = ⊥
+  IsSilent (Resigns n (Err e)) (Open s) (Open new) = new ≡ s
   IsSilent call before after = Unit {0}
 
   module _ (sent : List ServerCall) (es : List Event) (s : Simulates sent es) (u : User) where
@@ -361,9 +405,6 @@ module _ (keys : Keys) (naming : Naming) (texts : List Bytes) (g : Grounds keys 
       f : Follows keys naming u before given view stage_now
       f = subst (λ (c : Client). Follows keys naming u c given view stage_now) is (s.follow u)
 
-      has_own_now : u ≡ 0 → (t : Bytes) → Released_in t (released_by call after ++ given) → TextAddsOwnKeysOf everybody keys t
-      has_own_now = has_own sent es s (event call after) k
-
       covers_now : (v : View) → In v (accepted_by call before after view) → user_of v ≡ 0 → Names naming v.signed.handle v.table
       covers_now v i = covers sent es s (event call after) k v (subst (λ (c : Client). In v (accepted_by call c after view)) (sym is) i)
 
@@ -374,7 +415,7 @@ module _ (keys : Keys) (naming : Naming) (texts : List Bytes) (g : Grounds keys 
       begins : (changes : List (Change Digest)) (laid : List Bytes) (answer : Result Bytes ClientError) → Keeps (Begins changes laid answer) (Open new) → HasBegun t changes laid answer new → From (Open t) (Begins changes laid answer) (Open new)
       begins changes laid (Ok answer) k b =
           let call = Begins changes laid (Ok answer) in
-          inr (stepping.begins keys naming u (g.signers u) (calls s.moves) given view stage_now t new (f (Open t) is call (Open new) k) sound changes laid answer b (has_own_now (Open t) is call (Open new) k))
+          inr (inl (stepping.begins keys naming u (g.signers u) (calls s.moves) given view stage_now t new (f (Open t) is call (Open new) k) sound changes laid answer b))
       begins changes laid (Err error.Device) k b =
           inl (refl, refl, stepping.begin_fails keys naming u (g.signers u) (calls s.moves) given view stage_now t new (f (Open t) is (Begins changes laid (Err error.Device)) (Open new) k) sound changes laid b)
       begins changes laid (Err error.Memory) k b = inl (refl, refl, same (Begins changes laid (Err error.Memory)) k (b.err (λ d. cc d)))
@@ -388,9 +429,10 @@ module _ (keys : Keys) (naming : Naming) (texts : List Bytes) (g : Grounds keys 
       signs (Ok answer) k b =
           let call = Signs (Ok answer) in
           with_ready t (From (Open t) call (Open new)) b.ready (λ y ready.
-          inr (stepping.signs_ok keys naming u (g.signers u) (calls s.moves) given view stage_now t new (f (Open t) is call (Open new) k) sound y ready
+          inr (inl (stepping.signs_ok keys naming u (g.signers u) (calls s.moves) given view stage_now t new (f (Open t) is call (Open new) k) sound y ready
+          (knows sent es s (keeps_older keys naming texts (event call (Open new)) es k) u t is).pinned
           (accepted_table sent es s (keeps_older keys naming texts (event call (Open new)) es k) u t is y ready)
-          (accepted_records sent es s (keeps_older keys naming texts (event call (Open new)) es k) u t is y ready) answer b (covers_now (Open t) is call (Open new) k)))
+          (accepted_records sent es s (keeps_older keys naming texts (event call (Open new)) es k) u t is y ready) answer b (covers_now (Open t) is call (Open new) k))))
       signs (Err error.Device) k b =
           let call = Signs (Err error.Device) in
           with_ready t (From (Open t) call (Open new)) b.ready (λ y ready.
@@ -398,6 +440,7 @@ module _ (keys : Keys) (naming : Naming) (texts : List Bytes) (g : Grounds keys 
             refl,
             refl,
             stepping.sign_fails_here keys naming u (g.signers u) (calls s.moves) given view stage_now t new (f (Open t) is call (Open new) k) sound y ready
+                (knows sent es s (keeps_older keys naming texts (event call (Open new)) es k) u t is).pinned
                 (accepted_table sent es s (keeps_older keys naming texts (event call (Open new)) es k) u t is y ready)
                 (accepted_records sent es s (keeps_older keys naming texts (event call (Open new)) es k) u t is y ready) b,
           ))
@@ -407,6 +450,24 @@ module _ (keys : Keys) (naming : Naming) (texts : List Bytes) (g : Grounds keys 
       signs (Err error.NoKey) k b = inl (refl, refl, same (Signs (Err error.NoKey)) k (b.err (λ d. cc d)))
       signs (Err error.Foreign) k b = inl (refl, refl, same (Signs (Err error.Foreign)) k (b.err (λ d. cc d)))
       signs (Err error.Damaged) k b = inl (refl, refl, same (Signs (Err error.Damaged)) k (b.err (λ d. cc d)))
+
+      -- the certificate that is declared is a next one
+      next_then : (c : Signed Cert) (lists : Option Lists) → stage_now ≡ Declared t.last c lists → IsNextCert u t.last c
+      next_then c lists at = (subst (StandsAt pk naming (events_of pk s.moves) (shown_views s.moves) u) at ((in_step pk naming g.is_naming s.moves s.is).stands u)).next
+
+      resigns : (n : ℕ) (answer : Result Bytes ClientError) → Keeps (Resigns n answer) (Open new) → HasResigned t n answer new → LastAnswered pk (calls s.moves) (update_of t.text) status.BadSignature → From (Open t) (Resigns n answer) (Open new)
+      resigns n (Ok answer) k b was =
+          let call = Resigns n (Ok answer) in
+          inr (inr (stepping.resigns_ok keys naming u (g.signers u) (calls s.moves) given view stage_now t new (f (Open t) is call (Open new) k) sound n b.declared next_then was answer b))
+      resigns n (Err error.Device) k b was =
+          let call = Resigns n (Err error.Device) in
+          inr (inl (stepping.resign_fails_here keys naming u (g.signers u) (calls s.moves) given view stage_now t new (f (Open t) is call (Open new) k) sound n b.declared next_then was b))
+      resigns n (Err error.Memory) k b was = inl (refl, refl, same (Resigns n (Err error.Memory)) k (b.err (λ d. cc d)))
+      resigns n (Err error.NoLeaf) k b was = inl (refl, refl, same (Resigns n (Err error.NoLeaf)) k (b.err (λ d. cc d)))
+      resigns n (Err error.NoNumber) k b was = inl (refl, refl, same (Resigns n (Err error.NoNumber)) k (b.err (λ d. cc d)))
+      resigns n (Err error.NoKey) k b was = inl (refl, refl, same (Resigns n (Err error.NoKey)) k (b.err (λ d. cc d)))
+      resigns n (Err error.Foreign) k b was = inl (refl, refl, same (Resigns n (Err error.Foreign)) k (b.err (λ d. cc d)))
+      resigns n (Err error.Damaged) k b was = inl (refl, refl, same (Resigns n (Err error.Damaged)) k (b.err (λ d. cc d)))
 
       takes : (block : Option Bytes) (answer : Result Asks ClientError) → Keeps (Takes block answer) (Open new) → HasTaken t block answer new → From (Open t) (Takes block answer) (Open new)
       takes block answer k b =
@@ -419,9 +480,11 @@ module _ (keys : Keys) (naming : Naming) (texts : List Bytes) (g : Grounds keys 
     goes : (before : Client) → client_of u es ≡ before → (call : Call) (after : Client) → Keeps call after → IsStep (owner keys u) before call after → IsSound after → IsSilent call before after → From before call after
     goes (Closed p) is (Opens (Ok x)) (Open t) k step sound silent =
         stepping.opens keys naming u (g.signers u) (calls s.moves) given view stage_now p t x (f (Closed p) is (Opens (Ok x)) (Open t) k) step sound
-        (has_own_now (Closed p) is (Opens (Ok x)) (Open t) k) (covers_now (Closed p) is (Opens (Ok x)) (Open t) k)
+        (covers_now (Closed p) is (Opens (Ok x)) (Open t) k)
     goes (Closed p) is (Opens (Err e)) (Closed q) k step sound silent =
         inl (refl, refl, stepping.refused keys naming u (g.signers u) (calls s.moves) given view stage_now p e q (f (Closed p) is (Opens (Err e)) (Closed q) k) step)
+    goes (Closed p) is Gains (Closed q) k step sound silent =
+        inl (refl, refl, stepping.gained keys naming u (g.signers u) (calls s.moves) given view stage_now p q (f (Closed p) is Gains (Closed q) k) step)
     goes (Closed p) is Crashes (Closed q) k step sound silent =
         inl (refl, refl, stepping.left keys naming u (g.signers u) (calls s.moves) given view stage_now (Closed p) q (f (Closed p) is Crashes (Closed q) k) step)
     goes (Closed p) is call after k step sound silent = absurd step
@@ -430,6 +493,8 @@ module _ (keys : Keys) (naming : Naming) (texts : List Bytes) (g : Grounds keys 
     goes (Open t) is Crashes (Closed p) k step sound silent =
         inl (refl, refl, stepping.left keys naming u (g.signers u) (calls s.moves) given view stage_now (Open t) p (f (Open t) is Crashes (Closed p) k) step)
     goes (Open t) is (Begins changes laid answer) (Open new) k step sound silent = begins t new is sound changes laid answer k step
+    goes (Open t) is (Resigns n (Ok text)) (Open new) k step sound silent = absurd silent
+    goes (Open t) is (Resigns n (Err e)) (Open new) k step sound silent = inl (refl, refl, same t new is sound (Resigns n (Err e)) k silent)
     goes (Open t) is (Hears text answer) (Open new) k step sound silent = inl (refl, refl, same t new is sound (Hears text answer) k silent)
     goes (Open t) is (Takes block answer) (Open new) k step sound silent = takes t new is sound block answer k step
     goes (Open t) is (Signs answer) (Open new) k step sound silent = signs t new is sound answer k step
@@ -449,7 +514,7 @@ module _ (keys : Keys) (naming : Naming) (texts : List Bytes) (g : Grounds keys 
       here call k = f (Open t) is call (Open new) k
 
       -- a reply, which was given to the text that the client has
-      heard_step : (reply_text : Bytes) (answer : Asks) → Keeps (Hears reply_text (Ok answer)) (Open new) → HasHeard t reply_text (Ok answer) new → WasAnswered (pk 0) sent (update_of t.text) (success reply_text)
+      heard_step : (reply_text : Bytes) (answer : Asks) → Keeps (Hears reply_text (Ok answer)) (Open new) → HasHeard t reply_text (Ok answer) new → WasAnswered pk sent (update_of t.text) (success reply_text)
           → hand.Heard keys naming u reply_text new → Simulates sent (event (Hears reply_text (Ok answer)) (Open new) ∷ es)
       heard_step reply_text answer k b was heard =
           let call = Hears reply_text (Ok answer) in
@@ -458,19 +523,25 @@ module _ (keys : Keys) (naming : Naming) (texts : List Bytes) (g : Grounds keys 
           let c = signed_cert keys naming u d.0 d.1 in
           let is_reply : IsReply pk (calls s.moves) c heard.lists = record {
             payload = reply_text;
-            answered = subst (λ (text : Bytes). WasAnswered (pk 0) (calls s.moves) (update_of text) (success reply_text)) d.4 (subst (λ (cs : List ServerCall). WasAnswered (pk 0) cs (update_of t.text) (success reply_text)) (sym s.calls_are) was);
+            answered = subst (λ (text : Bytes). WasAnswered pk (calls s.moves) (update_of text) (success reply_text)) d.4 (subst (λ (cs : List ServerCall). WasAnswered pk cs (update_of t.text) (success reply_text)) (sym s.calls_are) was);
             lists = heard.are;
           } in
           moved sent es s (event call (Open new)) k []
-          (inr (stepping.hears keys naming u (g.signers u) (calls s.moves) given view stage_now t new h sound d.0 d.1 d.2 d.3 b.declared (quiet.hears t reply_text (Ok answer) new b) heard.lists heard.in_hand is_reply d.4))
+          (inr (inl (stepping.hears keys naming u (g.signers u) (calls s.moves) given view stage_now t new h sound d.0 d.1 d.2 d.3 b.declared (quiet.hears t reply_text (Ok answer) new b) heard.lists heard.in_hand is_reply d.4)))
 
       -- the structure was taken
-      committed_step : Keeps (Commits status.Ok) (Open new) → HasCommitted t status.Ok new → (payload : Bytes) → WasAnswered (pk 0) sent (commit_of t.text) (success payload) → Simulates sent (event (Commits status.Ok) (Open new) ∷ es)
+      committed_step : Keeps (Commits status.Ok) (Open new) → HasCommitted t status.Ok new → (payload : Bytes) → WasAnswered pk sent (commit_of t.text) (success payload) → Simulates sent (event (Commits status.Ok) (Open new) ∷ es)
       committed_step k b payload was =
           let call = Commits status.Ok in
-          let done = subst (λ (cs : List ServerCall). WasAnswered (pk 0) cs (commit_of t.text) (success payload)) (sym s.calls_are) was in
+          let done = subst (λ (cs : List ServerCall). WasAnswered pk cs (commit_of t.text) (success payload)) (sym s.calls_are) was in
           moved sent es s (event call (Open new)) k []
-          (inr (stepping.commits keys naming u (g.signers u) (calls s.moves) given view stage_now t new (here call k) sound b.state b.signed payload done))
+          (inr (inl (stepping.commits keys naming u (g.signers u) (calls s.moves) given view stage_now t new (here call k) sound b.state b.signed payload done)))
+
+      -- the certificate is signed again, after it was declined
+      resigned_step : (n : ℕ) (answer : Result Bytes ClientError) → Keeps (Resigns n answer) (Open new) → HasResigned t n answer new → LastAnswered pk sent (update_of t.text) status.BadSignature → Simulates sent (event (Resigns n answer) (Open new) ∷ es)
+      resigned_step n answer k b was =
+          moved sent es s (event (Resigns n answer) (Open new)) k []
+          (resigns t new is sound n answer k b (subst (λ (cs : List ServerCall). LastAnswered pk cs (update_of t.text) status.BadSignature) (sym s.calls_are) was))
 
   -- ---- an honest step
 
@@ -494,6 +565,7 @@ module _ (keys : Keys) (naming : Naming) (texts : List Bytes) (g : Grounds keys 
     step_of : (before : Client) → client_of h.user es ≡ before → (call : Call) (after : Client) → KeepsNow call after → IsStep (owner keys h.user) before call after → IsSound after → IsHandedIn (h ∷ older) before (held (stored older)) call → Then call after
     step_of before same (Opens answer) after k step sound handed = silently (Opens answer) after k (subst (λ (c : Client). IsStep (owner keys h.user) c (Opens answer) after) (sym same) step) sound tt
     step_of before same Closes after k step sound handed = silently Closes after k (subst (λ (c : Client). IsStep (owner keys h.user) c Closes after) (sym same) step) sound tt
+    step_of before same Gains after k step sound handed = silently Gains after k (subst (λ (c : Client). IsStep (owner keys h.user) c Gains after) (sym same) step) sound tt
     step_of before same (Begins changes laid answer) after k step sound handed = silently (Begins changes laid answer) after k (subst (λ (c : Client). IsStep (owner keys h.user) c (Begins changes laid answer) after) (sym same) step) sound tt
     step_of before same (Takes block answer) after k step sound handed = silently (Takes block answer) after k (subst (λ (c : Client). IsStep (owner keys h.user) c (Takes block answer) after) (sym same) step) sound tt
     step_of before same (Signs answer) after k step sound handed = silently (Signs answer) after k (subst (λ (c : Client). IsStep (owner keys h.user) c (Signs answer) after) (sym same) step) sound tt
@@ -503,6 +575,12 @@ module _ (keys : Keys) (naming : Naming) (texts : List Bytes) (g : Grounds keys 
     step_of before same Crashes after k step sound handed = silently Crashes after k (subst (λ (c : Client). IsStep (owner keys h.user) c Crashes after) (sym same) step) sound tt
     step_of (Closed p) same (Hears text answer) after k step sound handed = absurd step
     step_of (Closed p) same (Commits st) after k step sound handed = absurd step
+    step_of (Closed p) same (Resigns n answer) after k step sound handed = absurd step
+    step_of (Open t) same (Resigns n answer) (Closed q) k step sound handed = absurd step
+    step_of (Open t) same (Resigns n answer) (Open new) k step sound handed =
+        resigned_step (history (h ∷ older)) es after_exchange h.user t new same sound n answer k step
+        (last_answered keys (update_of t.text) status.BadSignature (h ∷ older) is refl
+        (subst (λ (f : Phase). IsSomeAnd (certificate_in f t.text) (λ own. WasLast (h ∷ older) (update_of own) status.BadSignature)) step.declared handed))
     step_of (Open t) same (Hears text answer) (Closed q) k step sound handed = absurd step
     step_of (Open t) same (Commits st) (Closed q) k step sound handed = absurd step
     step_of (Open t) same (Hears text (Err e)) (Open new) k step sound handed =

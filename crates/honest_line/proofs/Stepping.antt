@@ -1,8 +1,8 @@
 -- A step of a user's client that asks no server is at most one move of a dialogue.
-use Rattle.std.proofs.Common.{◌≡◌, ◌+◌, ◌<◌, zero, suc, arith, List, [], ◌∷◌, ◌++◌, length, Option, Some, None, Ok, Err, IfSome, refl, sym, ap, ◌∙◌, subst, inl, inr, option_map, option_to_list}
+use Rattle.std.proofs.Common.{◌≡◌, ◌+◌, ◌<◌, ℕ, List, [], ◌∷◌, ◌++◌, length, Option, Some, None, Ok, Err, IfSome, refl, sym, ap, ◌∙◌, subst, inl, inr, option_map, option_to_list}
 use Rattle.layout.specs.Types.{Bytes, Digest, User}
 use Rattle.leaf_ledger.specs.Ledger.{LeafNumber}
-use Rattle.version_order.specs.Structure.{Structure}
+use Rattle.version_order.specs.Structure.{Structure, structure}
 use Rattle.update_cert.specs.Change.{Change}
 use Rattle.update_cert.specs.Cert.{Cert, cert}
 use Rattle.pending_list.specs.declared.signed.Signed.{Signed}
@@ -12,43 +12,35 @@ use Rattle.client_releases.specs.declared.error.ClientError.{ClientError}
 use Rattle.client_releases.specs.declared.error.ClientError.TheVariants as error
 use Rattle.client_releases.specs.declared.phase.Phase.{Phase}
 use Rattle.client_releases.specs.declared.phase.Phase.TheVariants as phase
-use Rattle.client_releases.specs.Told.{IsPhase, Released}
+use Rattle.client_releases.specs.Told.{HasKey, IsPhase, Released}
 use Rattle.client_releases.specs.Releasing.{IsKept, structure_record, under}
-use Rattle.client_verify.specs.State.{Ready, State, committed, next_cert, next_structure, on, over, released, signed_over, signed_text, signing_key}
-use Rattle.client_steps.specs.Steps.{Begins, Call, Client, Closed, HasBegun, HasSigned, IsHandedBack, IsLeft, IsOpened, IsRefused, IsSound, Open, Opens, Parts}
+use Rattle.client_verify.specs.State.{IsOfDeclared, Ready, State, committed, newest_key, next_cert, next_structure, on, over, released, signed_over, signed_text, signing_key}
+use Rattle.client_steps.specs.Steps.{Call, Client, Closed, HasBegun, HasGained, HasResigned, HasSigned, IsHandedBack, IsLeft, IsOpened, IsRefused, IsSound, Open, Opens, Parts}
 use Rattle.agreement.specs.Runs.{View, user_of}
 use Rattle.agreement.proofs.Members.{In}
 use Rattle.release_runs.specs.Steps as low
 use Rattle.release_runs.proofs.Files.{Lies, lies_on, still_sure}
 use Rattle.release_runs.proofs.Holds.{IsAt, where_in_turn}
-use Rattle.release_runs.proofs.Members.{In as Released_in}
 use Rattle.release_runs.proofs.Holds as low_holds
 use Rattle.release_runs.proofs.Opening.{IsOf, opened_holds}
-use Rattle.release_runs.proofs.Releasing.{IsTriedCert, IsTriedStructure, declare_fails, declares, sign_fails, signs}
+use Rattle.release_runs.proofs.Releasing.{IsTriedCert, IsTriedStructure, declare_fails, declares, resign_fails, resigns, sign_fails, signs}
 use Rattle.release_runs.proofs.Runs as low_runs
-use Rattle.release_runs.proofs.Stories.{IsAfter, IsStory, OfCert, OfStructure, Release, last_in, phase_in, text}
+use Rattle.release_runs.proofs.Stories.{IsAfter, IsCertAfter, IsStory, OfCert, OfStructure, Release, last_in, phase_in}
 use Rattle.client_runs.specs.Released.{accepted_by, in_hand, released_by, tried_by, view_over, where_signed}
-use Rattle.client_runs.specs.Runs.{Keys, owner, public_key}
-use Rattle.client_runs.proofs.Lowering.{HasOneLedger, if_ready, low_begin_failed, low_begun, low_client, low_handed_back, low_left, low_opened, low_parts, low_sign_failed, low_signed, of_declared, one_ledger}
+use Rattle.client_runs.specs.Runs.{Keys, owner, pinned}
+use Rattle.client_runs.proofs.Lowering.{if_ready, low_begin_failed, low_begun, low_client, low_gained, low_handed_back, low_left, low_opened, low_parts, low_resign_failed, low_resigned, low_sign_failed, low_signed, of_declared}
 use Rattle.consistency_server.specs.Answers.{Call as ServerCall}
-use Rattle.consistency_server.specs.History.{commit_of}
-use Rattle.fork_consistency.specs.Premises.{TextAddsOwnKeysOf, everybody}
+use Rattle.consistency_server.specs.History.{commit_of, update_of}
 use Rattle.honest_history.specs.Honest.{Names, Naming, number_in}
 use Rattle.honest_history.specs.Served.{IsTableOf}
-use Rattle.honest_dialogues.specs.Dialogue.{Accepts, Declared, Declares, Idle, Ends, Hears as Heard_it, IsNextCert, IsReply, IsSealed, MayMove, Reopens, Sealed, Stage, WasAnswered, success}
+use Rattle.honest_dialogues.specs.Dialogue.{Accepts, Declared, Declares, Declined, Ends, Forgets, Hears as Heard_it, HearsDeclined, Idle, IsNextCert, IsReply, IsSealed, LastAnswered, MayMove, Reopens, Resigns, Sealed, Stage, WasAnswered, success}
 use Rattle.honest_dialogues.specs.Signing.{HasRecords}
-use Rattle.honest_line.proofs.Follows.{Follows, Goes, HoldsHeard, IsInPhase, IsMove, IsOfStory, IsTriedAt, MayDeclare, MaySeal, declared_at, failed_at, idle_at, in_phase_at, none_in_hand, o, signed_at, signed_cert, signed_structure}
-use Rattle.honest_line.proofs.OneKey.{declares_by_one, signs_by_one}
-use Rattle.honest_line.proofs.OwnKeys.{own_keys}
-use Rattle.honest_line.proofs.Signing.{CanSign, may_declare, may_seal, number_is}
+use Rattle.honest_line.proofs.Follows.{AreMoves, Follows, Goes, HoldsHeard, IsInPhase, IsMove, IsOfStory, IsTriedAt, Mark, MaySeal, cert_text, declared_at, failed_at, idle_at, in_phase_at, none_in_hand, o, signed_at, signed_cert, signed_structure}
+use Rattle.honest_line.proofs.Signing.{CanSign, IsNamed, may_declare, may_seal, number_is, signs_named}
 
 module _ (keys : Keys) (naming : Naming) (u : User) (can : CanSign keys u) (history : List ServerCall) (texts : List Bytes) (view : Option View) (stage : Stage) where
   abbrev At : Client → Option View → Stage → Type 0
   At client view stage = Follows keys naming u client texts view stage
-
-  -- each user that the released texts add has its own key, if they are user 0's
-  abbrev pub HasOwn : Call → Client → Type 0
-  HasOwn call after = u ≡ 0 → (t : Bytes) → Released_in t (released_by call after ++ texts) → TextAddsOwnKeysOf everybody keys t
 
   -- the handles that user 0 signs over these views name their tables
   abbrev pub Covers : List View → Type 0
@@ -70,19 +62,20 @@ module _ (keys : Keys) (naming : Naming) (u : User) (can : CanSign keys u) (hist
     own = tt;
   }
 
-  -- an open client has one ledger
-  has_one : (before : Client) → At before view stage → HasOneLedger before
-  has_one (Closed p) f = tt
-  has_one (Open s) f = one_ledger s (keys u) f.own.always.0 f.low.own.opened f.low.own.secrets
-
   pub left : (before : Client) (p : Parts) → At before view stage → IsLeft before p → At (Closed p) view stage
-  left before p f is = closes before p f (low_runs.left (o keys naming u) f.story f.tried (low_client before) f.low.lies (low_parts p) (low_left before p (has_one before f) is))
+  left before p f is = closes before p f (low_runs.left (o keys naming u) f.story f.tried (low_client before) f.low.lies (low_parts p) (low_left before p is))
 
   pub refused : (p : Parts) (e : ClientError) (q : Parts) → At (Closed p) view stage → IsRefused (owner keys u) p e q → At (Closed q) view stage
   refused p e q f is = closes (Closed p) q f (lies_on (o keys naming u) f.story f.tried (low_parts p).ledgers (low_parts q).ledgers p.journal.history q.journal.history f.low.lies (still_sure (low_parts p).ledgers (low_parts q).ledgers is.moments.ledgers) is.moments.records)
 
   pub handed_back : (s : State) (p : Parts) → At (Open s) view stage → IsHandedBack s p → At (Closed p) view stage
-  handed_back s p f is = closes (Open s) p f (low_runs.handed_back (o keys naming u) f.story f.tried (low_client (Open s)) f.low.lies (low_parts p) (low_handed_back s p (has_one (Open s) f) is).ledgers is.journal)
+  handed_back s p f is = closes (Open s) p f (low_runs.handed_back (o keys naming u) f.story f.tried (low_client (Open s)) f.low.lies (low_parts p) (low_handed_back s p is).ledgers is.journal)
+
+  -- a ledger more, on which nothing stands
+  pub gained : (p q : Parts) → At (Closed p) view stage → HasGained (owner keys u) p q → At (Closed q) view stage
+  gained p q f is =
+      let more = low_gained (owner keys u) p q is in
+      closes (Closed p) q f (low_runs.gained (o keys naming u) f.story f.tried (low_client (Closed p)) f.low.lies (low_parts q) more.ledgers more.journal)
 
   -- what was released is as it was, and so are the lists in hand
   module _ (s new : State) (always : IsSound (Open new)) where
@@ -135,7 +128,7 @@ module _ (keys : Keys) (naming : Naming) (u : User) (can : CanSign keys u) (hist
   in_vain (OfStructure n z q ∷ older) (Some (OfCert j c p)) (Some v) t = absurd t
   in_vain (OfStructure n z q ∷ older) (Some (OfStructure j y p)) (Some v) t = absurd (let two : phase.Signed ≡ phase.Declared = t.0 in cc two)
 
-  module _ (p : Parts) (s : State) (x : Unit {0}) (f : At (Closed p) view stage) (is : IsOpened (owner keys u) p s) (sound : IsSound (Open s)) (has_own : HasOwn (Opens (Ok x)) (Open s)) (covers : Covers (where_signed s.phase view)) where
+  module _ (p : Parts) (s : State) (x : Unit {0}) (f : At (Closed p) view stage) (is : IsOpened (owner keys u) p s) (sound : IsSound (Open s)) (covers : Covers (where_signed s.phase view)) where
     abbrev found : List Bytes
     found = released_by (Opens (Ok x)) (Open s) ++ texts
 
@@ -165,64 +158,83 @@ module _ (keys : Keys) (naming : Naming) (u : User) (can : CanSign keys u) (hist
     as_before : (story : List Release) → Low story → s.phase ≡ phase_in story → IsOfStory keys naming u story stage → where_signed (phase_in story) view ≡ [] → Opened
     as_before [] l at of none =
         inl (refl, ap (λ (g : Phase). where_signed g view) at ∙ none, opened_at [] l stage of (idle_at keys naming u s stage at (of ∙ ap Idle (sym (at_of [] l at).last))))
-    as_before (OfCert zero c q ∷ older) l at of none =
-        let own = at_of (OfCert zero c q ∷ older) l at in
-        let here = declared_at keys naming u s stage at (c, q, of.0, of.1 ∙ ap (λ (n : Option (Signed Structure)). Declared n (signed_cert keys naming u c q) of.0) (sym own.last), own.text, nothing of.0) in
-        inl (refl, ap (λ (g : Phase). where_signed g view) at ∙ none, opened_at (OfCert zero c q ∷ older) l stage of here)
-    as_before (OfStructure zero z q ∷ older) l at (inl of) none =
-        let own = at_of (OfStructure zero z q ∷ older) l at in
-        let here = signed_at keys naming u s stage at (z, q, of, own.last, own.text) in
-        inl (refl, ap (λ (g : Phase). where_signed g view) at ∙ none, opened_at (OfStructure zero z q ∷ older) l stage (inl of) here)
-    as_before (OfStructure zero z q ∷ older) l at (inr of) none =
-        let own = at_of (OfStructure zero z q ∷ older) l at in
-        let now : Stage = Sealed (signed_structure keys naming u z q) in
-        let here = signed_at keys naming u s now at (z, q, refl, own.last, own.text) in
-        inr (record {
-          act = Reopens;
+    as_before (OfCert n c q ∷ older) l at (inl of) none =
+        let own = at_of (OfCert n c q ∷ older) l at in
+        let here = declared_at keys naming u s stage at (c, (n, q), of.0, of.1 ∙ ap (λ (z : Option (Signed Structure)). Declared z (signed_cert keys naming u c (n, q)) of.0) (sym own.last), own.text, nothing of.0) in
+        inl (refl, ap (λ (g : Phase). where_signed g view) at ∙ none, opened_at (OfCert n c q ∷ older) l stage (inl of) here)
+    -- what was to be signed again wasn't
+    as_before (OfCert n c q ∷ older) l at (inr of) none =
+        let own = at_of (OfCert n c q ∷ older) l at in
+        let now : Stage = Declared (last_in (o keys naming u) older) (signed_cert keys naming u c (n, q)) None in
+        let here = declared_at keys naming u s now at (c, (n, q), None, ap (λ (z : Option (Signed Structure)). Declared z (signed_cert keys naming u c (n, q)) None) (sym own.last), own.text, nothing None) in
+        inr (inl (record {
+          act = Forgets;
           after = now;
-          may = subst (λ (b : Stage). MayMove (public_key keys) naming history u b Reopens now) (sym of) refl;
+          may = subst (λ (b : Stage). MayMove (pinned keys) naming history u b Forgets now) (sym of) refl;
           sends = refl;
           accepts = sym (ap (λ (g : Phase). where_signed g view) at ∙ none);
-          follows = opened_at (OfStructure zero z q ∷ older) l now (inl refl) here;
-        })
-    as_before (OfCert (suc n) c q ∷ older) l at of none = absurd (omega (arith, l.is_story.0.own))
-    as_before (OfStructure (suc n) z q ∷ older) l at of none = absurd (omega (arith, l.is_story.0.own))
+          follows = opened_at (OfCert n c q ∷ older) l now (inl (None, refl)) here;
+        }))
+    as_before (OfStructure n z q ∷ older) l at (inl of) none =
+        let own = at_of (OfStructure n z q ∷ older) l at in
+        let here = signed_at keys naming u s stage at (z, (n, q), of, own.last, own.text) in
+        inl (refl, ap (λ (g : Phase). where_signed g view) at ∙ none, opened_at (OfStructure n z q ∷ older) l stage (inl of) here)
+    as_before (OfStructure n z q ∷ older) l at (inr of) none =
+        let own = at_of (OfStructure n z q ∷ older) l at in
+        let now : Stage = Sealed (signed_structure keys naming u z (n, q)) in
+        let here = signed_at keys naming u s now at (z, (n, q), refl, own.last, own.text) in
+        inr (inl (record {
+          act = Reopens;
+          after = now;
+          may = subst (λ (b : Stage). MayMove (pinned keys) naming history u b Reopens now) (sym of) refl;
+          sends = refl;
+          accepts = sym (ap (λ (g : Phase). where_signed g view) at ∙ none);
+          follows = opened_at (OfStructure n z q ∷ older) l now (inl refl) here;
+        }))
 
     -- what was tried is found
     tried_found : (story : List Release) (r : Release) (v : Option View) → view ≡ v → Low (r ∷ story) → s.phase ≡ phase_in (r ∷ story) → IsTriedAt keys naming u story (Some r) v stage → Opened
-    tried_found story (OfCert zero c q) None same l at t =
-        let own = at_of (OfCert zero c q ∷ story) l at in
-        let now : Stage = Declared (last_in (o keys naming u) story) (signed_cert keys naming u c q) None in
-        let here = declared_at keys naming u s now at (c, q, None, ap (λ (n : Option (Signed Structure)). Declared n (signed_cert keys naming u c q) None) (sym own.last), own.text, nothing None) in
-        let given = own_keys keys u c q l.is_story.0.next.fits l.is_story.0.next.user (λ first. has_own first (text (o keys naming u) (OfCert zero c q)) (l.kept (OfCert zero c q) (inl refl))) in
-        let next : IsNextCert (public_key keys) u (last_in (o keys naming u) story) (signed_cert keys naming u c q) = t.1 given in
-        inr (record {
-          act = Declares;
-          after = now;
-          may = subst (λ (b : Stage). MayMove (public_key keys) naming history u b Declares now) (sym t.0) (refl, next);
-          sends = refl;
-          accepts = sym (ap (λ (g : Phase). where_signed g view) at);
-          follows = opened_at (OfCert zero c q ∷ story) l now (None, refl) here;
-        })
-    tried_found story (OfCert zero c q) (Some v) same l at t = absurd t
-    tried_found story (OfStructure zero z q) None same l at t = absurd t
-    tried_found story (OfStructure zero z q) (Some v) same l at t =
-        let own = at_of (OfStructure zero z q ∷ story) l at in
-        let now : Stage = Sealed (signed_structure keys naming u z q) in
-        let here = signed_at keys naming u s now at (z, q, refl, own.last, own.text) in
+    tried_found story (OfCert n c q) None same l at t =
+        let own = at_of (OfCert n c q ∷ story) l at in
+        let now : Stage = Declared (last_in (o keys naming u) story) (signed_cert keys naming u c (n, q)) None in
+        let here = declared_at keys naming u s now at (c, (n, q), None, ap (λ (z : Option (Signed Structure)). Declared z (signed_cert keys naming u c (n, q)) None) (sym own.last), own.text, nothing None) in
+        let follows = opened_at (OfCert n c q ∷ story) l now (inl (None, refl)) here in
+        let shows : [] ≡ where_signed s.phase view = sym (ap (λ (g : Phase). where_signed g view) at) in
+        elim t.1 [
+          | inl idle ↦ inr (inl (record {
+            act = Declares;
+            after = now;
+            may = subst (λ (b : Stage). MayMove (pinned keys) naming history u b Declares now) (sym idle) (refl, t.0);
+            sends = refl;
+            accepts = shows;
+            follows = follows;
+          }))
+          | inr declined ↦ inr (inl (record {
+            act = Resigns;
+            after = now;
+            may = subst (λ (b : Stage). MayMove (pinned keys) naming history u b Resigns now) (sym declined.1) (refl, declined.2, t.0);
+            sends = refl;
+            accepts = shows;
+            follows = follows;
+          }))
+        ]
+    tried_found story (OfCert n c q) (Some v) same l at t = absurd t
+    tried_found story (OfStructure n z q) None same l at t = absurd t
+    tried_found story (OfStructure n z q) (Some v) same l at t =
+        let own = at_of (OfStructure n z q ∷ story) l at in
+        let now : Stage = Sealed (signed_structure keys naming u z (n, q)) in
+        let here = signed_at keys naming u s now at (z, (n, q), refl, own.last, own.text) in
         let shows : where_signed s.phase view ≡ v ∷ [] = ap (λ (g : Phase). where_signed g view) at ∙ ap option_to_list same in
-        let may : IsSealed (public_key keys) naming u (last_in (o keys naming u) story) t.1.1 v (signed_structure keys naming u z q) =
+        let may : IsSealed (pinned keys) naming u (last_in (o keys naming u) story) t.1.1 v (signed_structure keys naming u z (n, q)) =
         t.1.3 (covers v (subst (λ (vs : List View). In v vs) (sym shows) (inl refl))) in
-        inr (record {
+        inr (inl (record {
           act = Accepts v;
           after = now;
-          may = subst (λ (b : Stage). MayMove (public_key keys) naming history u b (Accepts v) now) (sym t.1.2) may;
+          may = subst (λ (b : Stage). MayMove (pinned keys) naming history u b (Accepts v) now) (sym t.1.2) may;
           sends = refl;
           accepts = sym shows;
-          follows = opened_at (OfStructure zero z q ∷ story) l now (inl refl) here;
-        })
-    tried_found story (OfCert (suc n) c q) v same l at t = absurd (omega (arith, l.is_story.0.own))
-    tried_found story (OfStructure (suc n) z q) v same l at t = absurd (omega (arith, l.is_story.0.own))
+          follows = opened_at (OfStructure n z q ∷ story) l now (inl refl) here;
+        }))
 
     pub opens : Opened
     opens =
@@ -261,40 +273,40 @@ module _ (keys : Keys) (naming : Naming) (u : User) (can : CanSign keys u) (hist
           | inr other ↦ (let two : phase.Signed ≡ phase.Declared = sym other.0 ∙ declared in cc two)
         ]
 
-        may_next : (q : LeafNumber) → cert.Fits next → q < 1024 → MayDeclare keys naming u s.last (signed_cert keys naming u next q)
-        may_next q fits small =
-            may_declare keys naming u can s.last next q fits small f.low.own.user
+        may_next : (q : Mark) → cert.Fits next → IsNextCert u s.last (signed_cert keys naming u next q)
+        may_next q fits =
+            may_declare keys naming u s.last next q fits f.low.own.user
             (ap (λ n. n + 1) (at_idle.number ∙ number_is keys naming u f.story f.low.is_story told_idle ∙ ap number_in (sym at_idle.last))) refl
 
-      pub begins : (answer : Bytes) → HasBegun s changes laid (Ok answer) new → HasOwn (Begins changes laid (Ok answer)) (Open new) → IsMove keys naming u history stage (Open new) (answer ∷ texts) view [] []
-      begins answer b has_own =
-          let k = declares (o keys naming u) (Unit {0}) f.story f.tried texts (released s) f.low 0 next (released new) answer (declares_by_one s new (keys u) f.own.always.0 f.low.own.opened f.low.own.secrets next (Ok answer) (low_begun s new f.own.always.0.some changes laid answer b)) in
-          let q = k.0 in
+      pub begins : (answer : Bytes) → HasBegun s changes laid (Ok answer) new → IsMove keys naming u history stage (Open new) (answer ∷ texts) view [] []
+      begins answer b =
+          let n = newest_key s in
+          let k = declares (o keys naming u) (Unit {0}) f.story f.tried texts (released s) f.low n next (released new) answer (low_begun s new f.own.always.0.some changes laid answer b) in
+          let q : Mark = (n, k.0) in
           let is = b.declared.2 in
-          let l = where_in_turn (o keys naming u) ((s.number + 1 ≡ s.number + 1) × Unit {0}) (Unit {0}) (OfCert 0 next q ∷ f.story) None (low_client (Open new)) (answer ∷ texts) (λ _. (refl, tt)) k.1 in
+          let l = where_in_turn (o keys naming u) ((s.number + 1 ≡ s.number + 1) × Unit {0}) (Unit {0}) (OfCert n next k.0 ∷ f.story) None (low_client (Open new)) (answer ∷ texts) (λ _. (refl, tt)) k.1 in
           let own = l.own.stands (λ down. let two : phase.Declared ≡ phase.Failed = sym (ap (λ (n : State). n.phase) is) ∙ down in cc two) in
           let now : Stage = Declared s.last (signed_cert keys naming u next q) None in
-          let given = own_keys keys u next q l.is_story.0.next.fits l.is_story.0.next.user (λ zero. has_own zero (text (o keys naming u) (OfCert 0 next q)) (l.kept (OfCert 0 next q) (inl refl))) in
           let last : new.last ≡ s.last = ap (λ (n : State). n.last) is in
           record {
             act = Declares;
             after = now;
-            may = subst (λ (at : Stage). MayMove (public_key keys) naming history u at Declares now) (sym (stage_is b.idle)) (refl, may_next b.idle q l.is_story.0.next.fits l.is_story.0.small given);
+            may = subst (λ (at : Stage). MayMove (pinned keys) naming history u at Declares now) (sym (stage_is b.idle)) (refl, may_next b.idle q l.is_story.0.next.fits);
             sends = refl;
             accepts = refl;
             follows = record {
-              story = OfCert 0 next q ∷ f.story;
+              story = OfCert n next k.0 ∷ f.story;
               tried = None;
               low = l;
-              of_story = (None, ap (λ (n : Option (Signed Structure)). Declared n (signed_cert keys naming u next q) None) (at_idle b.idle).last);
-              tries = subst (λ (v : Option View). IsTriedAt keys naming u (OfCert 0 next q ∷ f.story) None v now) (sym (no_view b.idle)) tt;
+              of_story = inl (None, ap (λ (z : Option (Signed Structure)). Declared z (signed_cert keys naming u next q) None) (at_idle b.idle).last);
+              tries = subst (λ (v : Option View). IsTriedAt keys naming u (OfCert n next k.0 ∷ f.story) None v now) (sym (no_view b.idle)) tt;
               own = record {
                 no_view = λ _. no_view b.idle;
                 in_phase = declared_at keys naming u new now (ap (λ (n : State). n.phase) is) (
                   next,
                   q,
                   None,
-                  ap (λ (n : Option (Signed Structure)). Declared n (signed_cert keys naming u next q) None) (sym last),
+                  ap (λ (z : Option (Signed Structure)). Declared z (signed_cert keys naming u next q) None) (sym last),
                   own.text,
                   none_in_hand keys naming u new None (ap (λ (n : State). n.checked) is) (ap (λ (n : State). n.accepted) is),
                 );
@@ -305,7 +317,7 @@ module _ (keys : Keys) (naming : Naming) (u : User) (can : CanSign keys u) (hist
 
       pub begin_fails : HasBegun s changes laid (Err error.Device) new → At (Open new) view stage
       begin_fails b =
-          let k = declare_fails (o keys naming u) (Unit {0}) f.story f.tried texts (released s) f.low 0 next (released new) error.Device (declares_by_one s new (keys u) f.own.always.0 f.low.own.opened f.low.own.secrets next (Err error.Device) (low_begin_failed s new f.own.always.0.some changes laid b)) in
+          let k = declare_fails (o keys naming u) (Unit {0}) f.story f.tried texts (released s) f.low (newest_key s) next (released new) error.Device (low_begin_failed s new f.own.always.0.some changes laid b) in
           let is = b.fails refl in
           let l = where_in_turn (o keys naming u) ((s.number + 1 ≡ s.number + 1) × Unit {0}) (Unit {0}) f.story k.0 (low_client (Open new)) texts (λ _. (refl, tt)) k.2 in
           record {
@@ -321,26 +333,168 @@ module _ (keys : Keys) (naming : Naming) (u : User) (can : CanSign keys u) (hist
             };
           }
         where
-          tried : (some : Option Release) → IsTriedCert 0 next some → IfSome some (IsAfter (o keys naming u) f.story) → IsTriedAt keys naming u f.story some None stage
+          tried : (some : Option Release) → IsTriedCert (newest_key s) next some → IfSome some (IsAfter (o keys naming u) f.story) → IsTriedAt keys naming u f.story some None stage
           tried some (inl none) after = subst (λ (t : Option Release). IsTriedAt keys naming u f.story t None stage) (sym none) tt
           tried some (inr (q, one)) after =
               let here = subst (λ (t : Option Release). IfSome t (IsAfter (o keys naming u) f.story)) one after in
+              let last = (at_idle b.idle).last in
               subst (λ (t : Option Release). IsTriedAt keys naming u f.story t None stage) (sym one) (
-                stage_is b.idle ∙ ap Idle (at_idle b.idle).last,
-                subst (λ (l : Option (Signed Structure)). MayDeclare keys naming u l (signed_cert keys naming u next q)) (at_idle b.idle).last (may_next b.idle q here.next.fits here.small),
+                subst (λ (l : Option (Signed Structure)). IsNextCert u l (signed_cert keys naming u next (newest_key s, q))) last (may_next b.idle (newest_key s, q) here.next.fits),
+                inl (stage_is b.idle ∙ ap Idle last),
+              )
+
+    -- ---- signing a certificate again
+
+    -- the certificate that is declared is a next one, and was declined when it was sent last
+    module _ (n : ℕ) (is_declared : s.phase ≡ phase.Declared) (next : (c : Signed Cert) (heard : Option Lists) → stage ≡ Declared s.last c heard → IsNextCert u s.last c)
+        (was : LastAnswered (pinned keys) history (update_of s.text) status.BadSignature) where
+      up_again : s.phase ≡ phase.Failed → ⊥
+      up_again down = let two : phase.Declared ≡ phase.Failed = sym is_declared ∙ down in cc two
+
+      at_again : IsAt (o keys naming u) f.story f.tried (released s)
+      at_again = f.low.own.stands up_again
+
+      again_told : phase_in f.story ≡ phase.Declared
+      again_told = elim at_again.phase [
+        | inl same ↦ sym same ∙ is_declared
+        | inr other ↦ (let two : phase.Declared ≡ phase.Idle = sym is_declared ∙ other.1 in absurd (cc two))
+      ]
+
+      -- how far the client is
+      abbrev d : IsInPhase keys naming u phase.Declared s stage
+      d = in_phase_at keys naming u s stage phase.Declared is_declared f.own.in_phase
+
+      abbrev c : Signed Cert
+      c = signed_cert keys naming u d.0 d.1
+
+      -- and once it has heard that
+      abbrev between : Stage
+      between = Declined s.last c
+
+      hears_it : MayMove (pinned keys) naming history u stage HearsDeclined between
+      hears_it =
+          subst (λ (b : Stage). MayMove (pinned keys) naming history u b HearsDeclined between) (sym d.3)
+          (refl, subst (λ (t : Bytes). LastAnswered (pinned keys) history (update_of t) status.BadSignature) d.4 was)
+
+      -- the certificate that the story tells is that one
+      same_cert : (story : List Release) → phase_in story ≡ phase.Declared → IsOfStory keys naming u story stage → (e : Cert) → IsCertAfter story e → e ≡ c.value
+      same_cert [] told of e turn = absurd (let two : phase.Idle ≡ phase.Declared = told in cc two)
+      same_cert (OfCert j b p ∷ older) told (inl of) e turn =
+          let two : Declared s.last c d.2 ≡ Declared (last_in (o keys naming u) older) (signed_cert keys naming u b (j, p)) of.0 = sym d.3 ∙ of.1 in
+          let same : c ≡ signed_cert keys naming u b (j, p) = cc two in
+          turn ∙ ap (λ (x : Signed Cert). x.value) (sym same)
+      same_cert (OfCert j b p ∷ older) told (inr of) e turn =
+          absurd (let two : Declared s.last c d.2 ≡ Declined (last_in (o keys naming u) older) (signed_cert keys naming u b (j, p)) = sym d.3 ∙ of in cc two)
+      same_cert (OfStructure j z p ∷ older) told of e turn = absurd (let two : phase.Signed ≡ phase.Declared = told in cc two)
+
+      still_told : (story : List Release) → phase_in story ≡ phase.Declared → IsOfStory keys naming u story stage → IsOfStory keys naming u story between
+      still_told [] told of = absurd (let two : phase.Idle ≡ phase.Declared = told in cc two)
+      still_told (OfCert j b p ∷ older) told (inl of) =
+          let two : Declared s.last c d.2 ≡ Declared (last_in (o keys naming u) older) (signed_cert keys naming u b (j, p)) of.0 = sym d.3 ∙ of.1 in
+          inr (cc two)
+      still_told (OfCert j b p ∷ older) told (inr of) =
+          absurd (let two : Declared s.last c d.2 ≡ Declined (last_in (o keys naming u) older) (signed_cert keys naming u b (j, p)) = sym d.3 ∙ of in cc two)
+      still_told (OfStructure j z p ∷ older) told of = absurd (let two : phase.Signed ≡ phase.Declared = told in cc two)
+
+      -- and once it is signed again it is the next one still
+      next_again : (e : Cert) (q : Mark) → cert.Fits e → e ≡ c.value → IsNextCert u s.last (signed_cert keys naming u e q)
+      next_again e q fits same =
+          let was_next = next c d.2 d.3 in
+          may_declare keys naming u s.last e q fits (ap (λ (x : Cert). x.user) same ∙ was_next.user)
+          (ap (λ (x : Cert). x.number) same ∙ was_next.number) (ap (λ (x : Cert). x.last) same ∙ was_next.last_digest)
+
+      pub resigns_ok : (answer : Bytes) → HasResigned s n (Ok answer) new → AreMoves keys naming u history stage (Open new) (answer ∷ texts) view [] []
+      resigns_ok answer b =
+          let k = resigns (o keys naming u) (Unit {0}) f.story f.tried texts (released s) f.low n (released new) answer (low_resigned s new n answer b) in
+          let e = k.0 in
+          let q : Mark = (n, k.1) in
+          let is = b.resigned.2 in
+          let l = where_in_turn (o keys naming u) (Unit {0} × Unit {0}) (Unit {0}) (OfCert n e k.1 ∷ f.story) None (low_client (Open new)) (answer ∷ texts) (λ _. (tt, tt)) k.2 in
+          let phase_is : new.phase ≡ phase.Declared = ap (λ (n : State). n.phase) is ∙ is_declared in
+          let own = l.own.stands (λ down. let two : phase.Declared ≡ phase.Failed = sym phase_is ∙ down in cc two) in
+          let same = same_cert f.story again_told f.of_story e l.is_story.0.next.turn in
+          let now : Stage = Declared s.last (signed_cert keys naming u e q) None in
+          let last : new.last ≡ s.last = ap (λ (n : State). n.last) is in
+          record {
+            between = between;
+            declined = hears_it;
+            then_is = record {
+              act = Resigns;
+              after = now;
+              may = (refl, same, next_again e q l.is_story.0.next.fits same);
+              sends = refl;
+              accepts = refl;
+              follows = record {
+                story = OfCert n e k.1 ∷ f.story;
+                tried = None;
+                low = l;
+                of_story = inl (None, ap (λ (z : Option (Signed Structure)). Declared z (signed_cert keys naming u e q) None) at_again.last);
+                tries = subst (λ (v : Option View). IsTriedAt keys naming u (OfCert n e k.1 ∷ f.story) None v now) (sym (f.own.no_view up_again)) tt;
+                own = record {
+                  no_view = λ _. f.own.no_view up_again;
+                  in_phase = declared_at keys naming u new now phase_is (
+                    e,
+                    q,
+                    None,
+                    ap (λ (z : Option (Signed Structure)). Declared z (signed_cert keys naming u e q) None) (sym last),
+                    own.text,
+                    none_in_hand keys naming u new None (ap (λ (n : State). n.checked) is) (ap (λ (n : State). n.accepted) is),
+                  );
+                  always = always;
+                };
+              };
+            };
+          }
+
+      pub resign_fails_here : HasResigned s n (Err error.Device) new → IsMove keys naming u history stage (Open new) texts view [] []
+      resign_fails_here b =
+          let k = resign_fails (o keys naming u) (Unit {0}) f.story f.tried texts (released s) f.low n (released new) error.Device (low_resign_failed s new n b) in
+          let is = b.fails refl in
+          let l = where_in_turn (o keys naming u) (Unit {0} × Unit {0}) (Unit {0}) f.story k.1 (low_client (Open new)) texts (λ _. (tt, tt)) k.3 in
+          record {
+            act = HearsDeclined;
+            after = between;
+            may = hears_it;
+            sends = refl;
+            accepts = refl;
+            follows = record {
+              story = f.story;
+              tried = k.1;
+              low = l;
+              of_story = still_told f.story again_told f.of_story;
+              tries = subst (λ (v : Option View). IsTriedAt keys naming u f.story k.1 v between) (sym (f.own.no_view up_again)) (tried k.0 k.1 k.2 l.is_tried);
+              own = record {
+                no_view = λ _. f.own.no_view up_again;
+                in_phase = failed_at keys naming u new between (ap (λ (n : State). n.phase) is);
+                always = always;
+              };
+            };
+          }
+        where
+          tried : (e : Cert) (some : Option Release) → IsTriedCert n e some → IfSome some (IsAfter (o keys naming u) f.story) → IsTriedAt keys naming u f.story some None between
+          tried e some (inl none) after = subst (λ (t : Option Release). IsTriedAt keys naming u f.story t None between) (sym none) tt
+          tried e some (inr (q, one)) after =
+              let here = subst (λ (t : Option Release). IfSome t (IsAfter (o keys naming u) f.story)) one after in
+              let same = same_cert f.story again_told f.of_story e here.next.turn in
+              subst (λ (t : Option Release). IsTriedAt keys naming u f.story t None between) (sym one) (
+                subst (λ (l : Option (Signed Structure)). IsNextCert u l (signed_cert keys naming u e (n, q))) at_again.last (next_again e (n, q) here.next.fits same),
+                inr (c, ap (λ (l : Option (Signed Structure)). Declined l c) at_again.last, same),
               )
 
     -- ---- signing
 
-    module _ (y : Ready) (ready : s.accepted ≡ Some y) (table : IsTableOf naming (public_key keys 0) y.lists y.table) (records : HasRecords y) where
+    module _ (y : Ready) (ready : s.accepted ≡ Some y) (super : s.pinned ≡ pinned keys) (table : IsTableOf naming (pinned keys) y.lists y.table) (records : HasRecords y) where
       abbrev z : Structure
       z = next_structure s y
 
       abbrev v : View
       v = view_over s y
 
+      is_of_declared : IsOfDeclared (released s) y.lists.own.plan
+      is_of_declared = of_declared s new y ready f.own.always
+
       is_declared : s.phase ≡ phase.Declared
-      is_declared = (of_declared s new y ready f.own.always).is_declared
+      is_declared = is_of_declared.is_declared
 
       up : s.phase ≡ phase.Failed → ⊥
       up down = let two : phase.Declared ≡ phase.Failed = sym is_declared ∙ down in cc two
@@ -361,29 +515,38 @@ module _ (keys : Keys) (naming : Naming) (u : User) (can : CanSign keys u) (hist
           let same : d.2 ≡ Some y.lists = subst (λ (r : Option Ready). IfSome r (λ a. d.2 ≡ Some a.lists)) ready d.5.accepted in
           (signed_cert keys naming u d.0 d.1, d.3 ∙ ap (Declared s.last (signed_cert keys naming u d.0 d.1)) same)
 
+      -- the key that the table names signs it
+      named : HasKey (signing_key s y) (released s) → (q : LeafNumber) → IsNamed keys naming u y (signing_key s y, q)
+      named has q = signs_named keys naming u s y f.low.own.opened f.low.own.secrets super is_of_declared.user has q
+
+      may_seal_by : (q : LeafNumber) → structure.Fits z → signing_key s y < length (keys u) → q < 1024 → HasKey (signing_key s y) (released s) → MaySeal keys naming u s.last y.lists v (signed_structure keys naming u z (signing_key s y, q))
+      may_seal_by q fits own small has = may_seal keys naming u can s y (signing_key s y, q) fits own small (named has q) table records
+
       pub signs_ok : (answer : Bytes) → HasSigned s (Ok answer) new → Covers (option_to_list (in_hand (Open s))) → IsMove keys naming u history stage (Open new) (answer ∷ texts) view [] (option_to_list (in_hand (Open s)))
       signs_ok answer b covers =
           let done = if_ready s new y ready (λ r. (leaf : LeafNumber) × IsKept leaf (structure_record (signed_text s leaf r)) (under (signing_key s r) s.devices) (under (signing_key s r) new.devices) × (new ≡ over new.blocks (on new.devices (signed_over s leaf r)))) b.signed in
           let is = done.2 in
-          let k = signs (o keys naming u) (Unit {0}) f.story f.tried texts (released s) f.low 0 z (released new) answer (signs_by_one s new (keys u) f.own.always.0 f.low.own.opened f.low.own.secrets y z (Ok answer) (low_signed s new y ready answer f.own.always b)) in
-          let q = k.0 in
-          let l = where_in_turn (o keys naming u) (Unit {0} × Unit {0}) (Unit {0}) (OfStructure 0 z q ∷ f.story) None (low_client (Open new)) (answer ∷ texts) (λ _. (tt, tt)) k.1 in
+          let n = signing_key s y in
+          let low_is = low_signed s new y ready answer f.own.always b in
+          let k = signs (o keys naming u) (Unit {0}) f.story f.tried texts (released s) f.low n z (released new) answer low_is in
+          let q : Mark = (n, k.0) in
+          let l = where_in_turn (o keys naming u) (Unit {0} × Unit {0}) (Unit {0}) (OfStructure n z k.0 ∷ f.story) None (low_client (Open new)) (answer ∷ texts) (λ _. (tt, tt)) k.1 in
           let own = l.own.stands (λ down. let two : phase.Signed ≡ phase.Failed = sym (ap (λ (n : State). n.phase) is) ∙ down in cc two) in
           let now : Stage = Sealed (signed_structure keys naming u z q) in
           let shows : option_to_list (in_hand (Open s)) ≡ v ∷ [] = ap option_to_list hand_is in
-          let may = may_seal keys naming u can s y q l.is_story.0.next.fits l.is_story.0.small table records (covers v (subst (λ (vs : List View). In v vs) (sym shows) (inl refl))) in
+          let may = may_seal_by k.0 l.is_story.0.next.fits l.is_story.0.own l.is_story.0.small low_is.has (covers v (subst (λ (vs : List View). In v vs) (sym shows) (inl refl))) in
           record {
             act = Accepts v;
             after = now;
-            may = subst (λ (at : Stage). MayMove (public_key keys) naming history u at (Accepts v) now) (sym heard.1) may;
+            may = subst (λ (at : Stage). MayMove (pinned keys) naming history u at (Accepts v) now) (sym heard.1) may;
             sends = refl;
             accepts = sym shows;
             follows = record {
-              story = OfStructure 0 z q ∷ f.story;
+              story = OfStructure n z k.0 ∷ f.story;
               tried = None;
               low = l;
               of_story = inl refl;
-              tries = subst (λ (w : Option View). IsTriedAt keys naming u (OfStructure 0 z q ∷ f.story) None w now) (sym (f.own.no_view up)) tt;
+              tries = subst (λ (w : Option View). IsTriedAt keys naming u (OfStructure n z k.0 ∷ f.story) None w now) (sym (f.own.no_view up)) tt;
               own = record {
                 no_view = λ _. f.own.no_view up;
                 in_phase = signed_at keys naming u new now (ap (λ (n : State). n.phase) is) (z, q, refl, own.last, own.text);
@@ -394,7 +557,7 @@ module _ (keys : Keys) (naming : Naming) (u : User) (can : CanSign keys u) (hist
 
       pub sign_fails_here : HasSigned s (Err error.Device) new → At (Open new) (in_hand (Open s)) stage
       sign_fails_here b =
-          let k = sign_fails (o keys naming u) (Unit {0}) f.story f.tried texts (released s) f.low 0 z (released new) error.Device (signs_by_one s new (keys u) f.own.always.0 f.low.own.opened f.low.own.secrets y z (Err error.Device) (low_sign_failed s new y ready f.own.always b)) in
+          let k = sign_fails (o keys naming u) (Unit {0}) f.story f.tried texts (released s) f.low (signing_key s y) z (released new) error.Device low_is in
           let is = b.fails refl in
           let l = where_in_turn (o keys naming u) (Unit {0} × Unit {0}) (Unit {0}) f.story k.0 (low_client (Open new)) texts (λ _. (tt, tt)) k.2 in
           record {
@@ -410,13 +573,16 @@ module _ (keys : Keys) (naming : Naming) (u : User) (can : CanSign keys u) (hist
             };
           }
         where
+          low_is : low.HasSigned (released s) (signing_key s y) z (Err error.Device) (released new)
+          low_is = low_sign_failed s new y ready f.own.always b
+
           told : phase_in f.story ≡ phase.Declared
           told = elim at_declared.phase [
             | inl same ↦ sym same ∙ is_declared
             | inr other ↦ (let two : phase.Declared ≡ phase.Idle = sym is_declared ∙ other.1 in absurd (cc two))
           ]
 
-          tried : (some : Option Release) → IsTriedStructure 0 z some → IfSome some (IsAfter (o keys naming u) f.story) → IsTriedAt keys naming u f.story some (Some v) stage
+          tried : (some : Option Release) → IsTriedStructure (signing_key s y) z some → IfSome some (IsAfter (o keys naming u) f.story) → IsTriedAt keys naming u f.story some (Some v) stage
           tried some (inl none) after = subst (λ (t : Option Release). IsTriedAt keys naming u f.story t (Some v) stage) (sym none) told
           tried some (inr (q, one)) after =
               let here = subst (λ (t : Option Release). IfSome t (IsAfter (o keys naming u) f.story)) one after in
@@ -426,13 +592,14 @@ module _ (keys : Keys) (naming : Naming) (u : User) (can : CanSign keys u) (hist
                   heard.0,
                   y.lists,
                   heard.1 ∙ ap (λ (l : Option (Signed Structure)). Declared l heard.0 (Some y.lists)) at_declared.last,
-                  subst (λ (l : Option (Signed Structure)). MaySeal keys naming u l y.lists v (signed_structure keys naming u z q)) at_declared.last (may_seal keys naming u can s y q here.next.fits here.small table records),
+                  subst (λ (l : Option (Signed Structure)). MaySeal keys naming u l y.lists v (signed_structure keys naming u z (signing_key s y, q))) at_declared.last
+                      (may_seal_by q here.next.fits here.own here.small low_is.has),
                 ),
               )
 
     -- ---- committing
 
-    pub commits : new ≡ committed status.Ok s → s.phase ≡ phase.Signed → (payload : Bytes) → WasAnswered (public_key keys 0) history (commit_of s.text) (success payload) → IsMove keys naming u history stage (Open new) texts view [] []
+    pub commits : new ≡ committed status.Ok s → s.phase ≡ phase.Signed → (payload : Bytes) → WasAnswered (pinned keys) history (commit_of s.text) (success payload) → IsMove keys naming u history stage (Open new) texts view [] []
     commits is signed_it payload done =
         let e = in_phase_at keys naming u s stage phase.Signed signed_it f.own.in_phase in
         let z = signed_structure keys naming u e.0 e.1 in
@@ -442,7 +609,7 @@ module _ (keys : Keys) (naming : Naming) (u : User) (can : CanSign keys u) (hist
         record {
           act = Ends;
           after = now;
-          may = subst (λ (b : Stage). MayMove (public_key keys) naming history u b Ends now) (sym e.2) (refl, payload, subst (λ (t : Bytes). WasAnswered (public_key keys 0) history (commit_of t) (success payload)) e.4 done);
+          may = subst (λ (b : Stage). MayMove (pinned keys) naming history u b Ends now) (sym e.2) (refl, payload, subst (λ (t : Bytes). WasAnswered (pinned keys) history (commit_of t) (success payload)) e.4 done);
           sends = refl;
           accepts = refl;
           follows = record {
@@ -470,13 +637,12 @@ module _ (keys : Keys) (naming : Naming) (u : User) (can : CanSign keys u) (hist
           | inl same ↦ (let two : phase.Signed ≡ phase.Declared = sym signed_it ∙ same in cc two)
           | inr other ↦ (let two : phase.Declared ≡ phase.Signed = other.0 in cc two)
         ])
-        ended (OfStructure zero y q ∷ older) is_story z last at = inr (ap Idle (sym last))
-        ended (OfStructure (suc n) y q ∷ older) is_story z last at = absurd (omega (arith, is_story.0.own))
+        ended (OfStructure n y q ∷ older) is_story z last at = inr (ap Idle (sym last))
 
     -- ---- hearing
 
-    pub hears : (c : Cert) (q : LeafNumber) (was : Option Lists) → stage ≡ Declared s.last (signed_cert keys naming u c q) was → s.phase ≡ phase.Declared → released new ≡ released s → (x : Lists) → HoldsHeard keys naming u new (Some x)
-        → IsReply (public_key keys) history (signed_cert keys naming u c q) x → s.text ≡ text (o keys naming u) (OfCert 0 c q)
+    pub hears : (c : Cert) (q : Mark) (was : Option Lists) → stage ≡ Declared s.last (signed_cert keys naming u c q) was → s.phase ≡ phase.Declared → released new ≡ released s → (x : Lists) → HoldsHeard keys naming u new (Some x)
+        → IsReply (pinned keys) history (signed_cert keys naming u c q) x → s.text ≡ cert_text keys naming u c q
         → IsMove keys naming u history stage (Open new) texts view [] []
     hears c q was at declared same x in_hand reply sent =
         let now : Stage = Declared s.last (signed_cert keys naming u c q) (Some x) in
@@ -484,7 +650,7 @@ module _ (keys : Keys) (naming : Naming) (u : User) (can : CanSign keys u) (hist
         record {
           act = Heard_it;
           after = now;
-          may = subst (λ (b : Stage). MayMove (public_key keys) naming history u b Heard_it now) (sym at) (refl, refl, reply);
+          may = subst (λ (b : Stage). MayMove (pinned keys) naming history u b Heard_it now) (sym at) (refl, refl, reply);
           sends = refl;
           accepts = refl;
           follows = record {
@@ -518,8 +684,9 @@ module _ (keys : Keys) (naming : Naming) (u : User) (can : CanSign keys u) (hist
 
         of_story : (story : List Release) → IsOfStory keys naming u story stage → IsOfStory keys naming u story (Declared s.last (signed_cert keys naming u c q) (Some x))
         of_story [] of = absurd (let two : Declared s.last (signed_cert keys naming u c q) was ≡ Idle None = sym at ∙ of in cc two)
-        of_story (OfCert n d p ∷ older) of =
-            let two : Declared s.last (signed_cert keys naming u c q) was ≡ Declared (last_in (o keys naming u) older) (signed_cert keys naming u d p) of.0 = sym at ∙ of.1 in
-            (Some x, cc two)
-        of_story (OfStructure n z p ∷ older) (inl of) = absurd (let two : Declared s.last (signed_cert keys naming u c q) was ≡ Sealed (signed_structure keys naming u z p) = sym at ∙ of in cc two)
-        of_story (OfStructure n z p ∷ older) (inr of) = absurd (let two : Declared s.last (signed_cert keys naming u c q) was ≡ Idle (Some (signed_structure keys naming u z p)) = sym at ∙ of in cc two)
+        of_story (OfCert n d p ∷ older) (inl of) =
+            let two : Declared s.last (signed_cert keys naming u c q) was ≡ Declared (last_in (o keys naming u) older) (signed_cert keys naming u d (n, p)) of.0 = sym at ∙ of.1 in
+            inl (Some x, cc two)
+        of_story (OfCert n d p ∷ older) (inr of) = absurd (let two : Declared s.last (signed_cert keys naming u c q) was ≡ Declined (last_in (o keys naming u) older) (signed_cert keys naming u d (n, p)) = sym at ∙ of in cc two)
+        of_story (OfStructure n z p ∷ older) (inl of) = absurd (let two : Declared s.last (signed_cert keys naming u c q) was ≡ Sealed (signed_structure keys naming u z (n, p)) = sym at ∙ of in cc two)
+        of_story (OfStructure n z p ∷ older) (inr of) = absurd (let two : Declared s.last (signed_cert keys naming u c q) was ≡ Idle (Some (signed_structure keys naming u z (n, p))) = sym at ∙ of in cc two)

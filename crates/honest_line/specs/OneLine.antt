@@ -4,7 +4,7 @@
 use Rattle.std.specs.Prelude.{◌≡◌, ◌<◌, List, ◌++◌, Ok, IfSome, length, reverse}
 use Rattle.std.specs.List.{All, flat_map}
 use Rattle.layout.specs.Types.{Bytes, User}
-use Rattle.lms_sign.specs.Secret.{HasLeaf}
+use Rattle.lms_sign.specs.Secret.{HasLeaf, Secret}
 use Rattle.leaf_ledger.specs.Ledger.{LeafNumber, number_of_leaves}
 use Rattle.itable.specs.File.{NoneCollide}
 use Rattle.client_verify.specs.declared.look.Look.TheVariants as look
@@ -48,7 +48,7 @@ pub record AreOnOneLine (keys : Keys) (run : List HonestEvent) : Type 0 where
   -- No reply and no block is refused;
   pub unbroken : All (λ h. IfSome h.step (λ s. IsUnbroken s.call)) run
   -- UPDATE and COMMIT are answered with success, but where the log is full, memory runs out, or UPDATE's user isn't
-  -- listed or at a limit;
+  -- listed, has another key last, or is at a limit;
   pub statuses : AreAnswered keys run
   -- operations go on: whatever would come next would be taken,
   pub next : (u : User) → ClientCanGoOn keys run u (client_of u (events run))
@@ -60,16 +60,20 @@ pub record AreOnOneLine (keys : Keys) (run : List HonestEvent) : Type 0 where
   -- and what it shows is the world of that line.
   pub consistent : AreForkConsistent keys (events run)
 
--- No digest collides, and user 0's client added each user with the user's own key, and set no other.
+-- No digest collides, and user 0's client gave each user no key but the user's own.
 pub record HonestPremises (keys : Keys) (run : List HonestEvent) : Type 0 where
   pub no_collision : NoneCollide (all_texts keys run) (all_texts keys run)
   pub added : AddsOwnKeys keys (events run)
 
--- User 0's key has the form of a key, each key's identifier has 16 bytes, and each of its leaves can sign.
+-- the key's identifier has 16 bytes, and each of its leaves can sign
+pub record IsSecret (secret : Secret) : Type 0 where
+  pub identifier : length secret.id ≡ 16
+  pub leaves : (leaf : LeafNumber) → leaf < number_of_leaves → HasLeaf secret leaf
+
+-- The key of user 0's that every client knows has the form of a key, and each user's keys can sign.
 pub record AreKeys (keys : Keys) : Type 0 where
   pub pinned : PinnedIsKey keys
-  pub identifiers : (u : User) → length (keys u).id ≡ 16
-  pub leaves : (u : User) (leaf : LeafNumber) → leaf < number_of_leaves → HasLeaf (keys u) leaf
+  pub each : (u : User) → All IsSecret (keys u)
 
 -- so it is over each honest run
 abbrev pub EachHonestRun : Type 0
@@ -85,7 +89,7 @@ pub record IsOneLine {A : Type 0} (steps : List (HonestStep A)) (answers : List 
   pub run : List HonestEvent
   pub is_run : IsHonestRun script_keys run
   pub kept : Keep (reverse steps) (reverse answers) run
-  pub leaves : (u : User) → LeavesOnce u (events run)
-  pub certificates : (u : User) → CertificatesOnce u (events run)
-  pub structures : (u : User) → StructuresOnce u (events run)
+  pub leaves : (u : User) → LeavesOnce script_keys u (events run)
+  pub certificates : (u : User) → CertificatesOnce script_keys u (events run)
+  pub structures : (u : User) → StructuresOnce script_keys u (events run)
   pub one_line : HonestPremises script_keys run → AreOnOneLine script_keys run
