@@ -2,12 +2,14 @@
 //! device fails in the step, of the ledger's and of the journal's, a digit, or `-` for never; the letter of what the
 //! client is told to do; and what it takes for that:
 //!
-//! - `o`: it opens; `k`: it closes; `s`: it signs; `c`: it is told of a commit;
+//! - `o`: it opens; `k`: it closes; `n`: it gains its next key; `s`: it signs; `c`: it is told of a commit;
 //! - `d`: it declares an operation of these changes, spelled as `planning.rt` says;
+//! - `a`: it signs its certificate again, by the key of this number, in a byte;
 //! - `r`: it is handed this reply; `b`: this block for it; `g`: this block for its look; `B` and `G`: none;
 //! - `v`, `q`: it looks, or asks of what kind stands, at this i-number of a principal; `f`: it asks for a free one,
 //!   from one to another;
-//! - `x`: a crash leaves two fields, of the ledger and of the journal, or nothing; `w`: it leaves a byte of a journal;
+//! - `x`: a crash leaves a field for each ledger and one of the journal, or nothing; `w`: it leaves a byte of a
+//!   journal;
 //! - `0`, `1`, `2`: its cache gets this size; `m`: the greatest one; `M`: one above it.
 
 use crate::answers::{all_spelled, fields_of};
@@ -19,7 +21,7 @@ use lms_sign::PublicKey;
 use std::alloc::Global;
 use tests_aids::numbers::{i_number, principal};
 use tests_aids::texts::joined;
-use tests_aids::{Host, check, given};
+use tests_aids::{Host, check, found, given};
 use tests_client_aids::changes::Planned;
 use wire::Status;
 
@@ -52,13 +54,29 @@ fn beginning(rt: &impl Host, keys: &[PublicKey], changes: &[u8]) -> Act<Global> 
     Act::Begin(changes, laid)
 }
 
-/// A crash leaves this.
-fn crash(rt: &impl Host, left: &[u8]) -> Act<Global> {
-    let fields = fields_of(rt, left);
-    match fields.as_slice() {
-        [ledger, journal] => Act::Crash(joined(rt, &[ledger]), joined(rt, &[journal])),
-        _ => Act::Crash(Vec::new(rt.alloc()), Vec::new(rt.alloc())),
+/// One ledger without bytes.
+static ONE_EMPTY: [&[u8]; 1] = [b""];
+
+/// A crash leaves these texts of the ledgers, and this one of the journal.
+fn crash(rt: &impl Host, ledgers: &[&[u8]], journal: &[u8]) -> Act<Global> {
+    let mut left = Vec::new(rt.alloc());
+    for ledger in ledgers {
+        given(rt, left.push(joined(rt, &[ledger])), "memory");
     }
+    Act::Crash(left, joined(rt, &[journal]))
+}
+
+/// A crash leaves these fields, the journal's last, or nothing.
+fn crash_of(rt: &impl Host, left: &[u8]) -> Act<Global> {
+    match fields_of(rt, left).as_slice() {
+        [ledgers @ .., journal] => crash(rt, ledgers, journal),
+        [] => crash(rt, &ONE_EMPTY, &[]),
+    }
+}
+
+/// It signs its certificate again, by the key of this number.
+fn resigning(rt: &impl Host, number: &[u8]) -> Act<Global> {
+    Act::Resign(*found(rt, number.first(), "a number of a key"))
 }
 
 /// It looks in one of three ways.
@@ -80,11 +98,12 @@ fn act_alone(rt: &impl Host, letter: u8) -> Act<Global> {
     match letter {
         b'o' => Act::Open,
         b'k' => Act::Close,
+        b'n' => Act::Gain,
         b's' => Act::Sign,
         b'c' => Act::Committed(Status::Ok),
         b'B' => Act::Block(None),
         b'G' => Act::Give(None),
-        b'w' => Act::Crash(Vec::new(rt.alloc()), joined(rt, &[&[1]])),
+        b'w' => crash(rt, &ONE_EMPTY, &[1]),
         b'0'..=b'2' => Act::Cache(u16::from(letter.wrapping_sub(b'0'))),
         b'm' => Act::Cache(4_096),
         b'M' => Act::Cache(4_097),
@@ -96,11 +115,12 @@ fn act_alone(rt: &impl Host, letter: u8) -> Act<Global> {
 pub(crate) fn act_of(rt: &impl Host, keys: &[PublicKey], letter: u8, rest: &[u8]) -> Act<Global> {
     match letter {
         b'd' => beginning(rt, keys, rest),
+        b'a' => resigning(rt, rest),
         b'r' => Act::Reply(joined(rt, &[rest])),
         b'b' => Act::Block(Some(joined(rt, &[rest]))),
         b'g' => Act::Give(Some(joined(rt, &[rest]))),
         b'v' | b'q' | b'f' => look(rt, letter, rest),
-        b'x' => crash(rt, rest),
+        b'x' => crash_of(rt, rest),
         _ => act_alone(rt, letter),
     }
 }

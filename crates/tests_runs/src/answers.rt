@@ -1,11 +1,11 @@
 //! What clients answer, spelled as bytes: so what a client answers that stands alone can be compared with what `run`
 //! answers, and tests look at bytes alone. The first byte tells what it is:
 //!
-//! - `-`: the step isn't taken; `k`: closed; `c`: it knows of the commit; `h`: its cache has another size; `x`: the
-//!   crash came;
+//! - `-`: the step isn't taken; `k`: closed; `y`: it has a key more; `c`: it knows of the commit; `h`: its cache has
+//!   another size; `x`: the crash came;
 //! - `o`: open, and the letter of the phase, and the text to be sent again;
-//! - `b`: the certificate that it declared; `s`: four fields, the structure that it signed, and of the view the table,
-//!   the numbers of the lost changes, and the signatures of the structures;
+//! - `b`: the certificate that it declared, or signed again; `s`: four fields, the structure that it signed, and of the
+//!   view the table, the numbers of the lost changes, and the signatures of the structures;
 //! - `n`: the digest of the block that it asks for; `t`: the texts to be stored, each a field; `!`: the broken rule;
 //! - `F`: the bytes of a file; `D`: the entries of a directory, each a field, an i-number of a principal and its name;
 //!   `0`: nothing stands there; `K`: a kind and size; `P`: a free i-number, or none;
@@ -248,6 +248,7 @@ fn letter_of(answer: &Answer<Global>) -> &'static [u8] {
     match answer {
         Answer::NotTaken => b"-",
         Answer::Closed => b"k",
+        Answer::Gained => b"y",
         Answer::Committed => b"c",
         Answer::Cached => b"h",
         Answer::Crashed => b"x",
