@@ -4,6 +4,7 @@ pub mod Turns
 pub mod Operations
 pub mod Given
 pub mod Steps
+pub mod Tries
 pub mod Tables
 pub mod Last
 pub mod Walks

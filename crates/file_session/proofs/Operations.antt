@@ -18,9 +18,9 @@ use Rattle.file_session.specs.declared.stop.Stop.TheVariants as stop
 use Rattle.transport.specs.declared.transport.TransportError.{TransportError}
 use Rattle.file_session.specs.Replies.{payload_in, block_in, status_in}
 use Rattle.file_session.specs.Calls.{Hears, Takes, Leads}
-use Rattle.file_session.specs.Order.{Ready, Update, Hear, Fetch, Store, Commit, Over, checking, hearing, update, storing, laying, committed, telling, get, commit, put as put_of, texts_of}
+use Rattle.file_session.specs.Order.{Ready, Hear, Fetch, Store, Commit, Over, checking, storing, laying, committed, telling, get, commit, put as put_of, texts_of}
 use Rattle.file_session.specs.Went.{Answering, At, point, Begun, signs, Went, Finished, Operated}
-use Rattle.file_session.proofs.Runs.{went_then, went_as, updated, heard, fetched, took, put, laid, sent}
+use Rattle.file_session.proofs.Runs.{went_then, went_as, heard, fetched, took, put, laid, sent}
 
 pub on_ok : {X E : Type 0} (r : Result X E) {P : Type 0} → P → OnOk r P
 on_ok (Ok x) h = h
@@ -83,12 +83,6 @@ module _ {T : Type 0} {answers : Answering T} where
       → Went answers (point m t (Commit text)) (point m t' (telling r)) []
   sends m t t' said text r is came =
       let C : Bytes → Type 0 = λ x. Went answers (point m t (Commit x)) (point m t' (telling r)) [] in subst C is (sent m m t t' said r refl came)
-
-  -- the certificate was sent
-  pub updates : (m : State) (t t' : T) (said text : Bytes) (r : Result Bytes Stop) → said ≡ text → ((x : Result Bytes TransportError) × answers t (update said) x t' × (r ≡ payload_in x))
-      → Went answers (point m t (Update text)) (point m t' (hearing r)) []
-  updates m t t' said text r is came =
-      let C : Bytes → Type 0 = λ x. Went answers (point m t (Update x)) (point m t' (hearing r)) [] in subst C is (updated m m t t' said r refl came)
 
   -- its reply was handed in
   pub hears : (m m' : State) (t : T) (said text : Bytes) (x : Result Asks ClientError) → said ≡ text → Leads m (Hears said x) m' → Went answers (point m t (Hear text)) (point m' t (checking x)) []

@@ -1,21 +1,24 @@
 -- Runs, one move after another.
-use Rattle.std.proofs.Common.{◌≡◌, ℕ, List, [], ◌∷◌, ◌++◌, Option, Result, Ok, Err, refl, sym, ap, ◌∙◌, subst, append_assoc, append-nil}
+use Rattle.std.proofs.Common.{◌≡◌, ℕ, true, false, List, [], ◌∷◌, ◌++◌, Option, Result, Ok, Err, refl, sym, ap, ◌∙◌, subst, append_assoc, append-nil}
+use Rattle.std.specs.Option.{unwrap_or}
 use Rattle.layout.specs.Types.{Bytes, Digest}
 use Rattle.update_cert.specs.Change.{Change}
 use Rattle.client_tree.specs.declared.questions.Question.{Question}
 use Rattle.wire.specs.declared.kinds.Status.{Status}
 use Rattle.client_releases.specs.declared.error.ClientError.{ClientError}
+use Rattle.client_releases.specs.declared.error.ClientError.TheVariants as error
 use Rattle.client_verify.specs.State.{State}
 use Rattle.client_steps.specs.Steps.{Asks, Sees}
 use Rattle.file_session.specs.declared.stop.Stop.{Stop}
 use Rattle.file_session.specs.declared.stop.Stop.TheVariants as stop
 use Rattle.transport.specs.declared.transport.TransportError.{TransportError}
 use Rattle.file_session.specs.Replies.{payload_in, block_in, status_in}
-use Rattle.file_session.specs.Calls.{Begins, Hears, Takes, Signs, Commits, Looks, Gives, Leads}
-use Rattle.file_session.specs.Order.{Move, Calls, Sends, LacksPlan, LacksNumbers, Ready, Update, Hear, Fetch, Take, Store, CommitNew, Commit, Tell, FetchAt, GiveAt, Over}
-use Rattle.file_session.specs.Order.{laying, declaring, hearing, checking, taking, storing, committing, telling, committed, looking, giving, ready_or}
+use Rattle.file_session.specs.Calls.{Begins, Resigns, Hears, Takes, Signs, Commits, Looks, Gives, Leads}
+use Rattle.file_session.specs.Order.{Move, Calls, Sends, LacksLeaves, LacksPlan, LacksNumbers, Ready, Update, Hear, Resign, Fetch, Take, Store, CommitNew, Commit, Tell, FetchAt, GiveAt, Over}
+use Rattle.file_session.specs.Order.{laying, declaring, hearing, resigning, checking, taking, storing, committing, telling, committed, looking, giving, ready_or}
 use Rattle.file_session.specs.Order.{put as put_of, update, get, commit}
-use Rattle.file_session.specs.Went.{Answering, At, point, IsMove, Moves, Event, Begun, Saw, Unplanned, looks, signs, seen_by, signed_by, events_of, events, Went, Seen}
+use Rattle.file_session.specs.Tries.{can_declare, keys_to_try}
+use Rattle.file_session.specs.Went.{Answering, At, point, IsMove, Moves, Event, Begun, Saw, Unbegun, Unplanned, looks, signs, seen_by, signed_by, events_of, events, Went, Seen}
 
 pub events_join : (ms ns : List Move) → events (ms ++ ns) ≡ events ms ++ events ns
 events_join [] ns = refl
@@ -32,6 +35,7 @@ moves_join answers a b c (m ∷ ms) ns (mid, one, more) k = (mid, one, moves_joi
 first_new : {T : Type 0} (answers : Answering T) (m : State) (t : T) (text : Bytes) (lost : List ℕ) (move : Move) (b : At T) → IsMove answers (point m t (Commit text)) move b → IsMove answers (point m t (CommitNew text lost)) move b
 first_new answers m t text lost (Calls call) b h = absurd h.2
 first_new answers m t text lost (Sends r x) b h = h
+first_new answers m t text lost LacksLeaves b h = absurd h.2
 first_new answers m t text lost LacksPlan b h = absurd h.2
 first_new answers m t text lost LacksNumbers b h = absurd h.2
 
@@ -58,14 +62,18 @@ module _ {T : Type 0} {answers : Answering T} where
 
   -- ---- each move
 
-  pub begun : (m m' : State) (t : T) (changes : List (Change Digest)) (texts : List Bytes) (x : Result Bytes ClientError) → Leads m (Begins changes texts x) m' → Went answers (point m t (Ready texts)) (point m' t (declaring x)) (Begun changes texts ∷ [])
-  begun m m' t changes texts x h = went_one (point m t (Ready texts)) (Calls (Begins changes texts x)) (point m' t (declaring x)) (h, refl, (refl, refl))
+  pub begun : (m m' : State) (t : T) (changes : List (Change Digest)) (texts : List Bytes) (x : Result Bytes ClientError) → can_declare m ≡ true → Leads m (Begins changes texts x) m' → Went answers (point m t (Ready texts)) (point m' t (declaring x)) (Begun changes texts ∷ [])
+  begun m m' t changes texts x can h = went_one (point m t (Ready texts)) (Calls (Begins changes texts x)) (point m' t (declaring x)) (h, refl, (can, refl, refl))
 
   pub laid : (m m' : State) (t t' : T) (before : List Bytes) (text : Bytes) (r : Result Bytes Stop) → m' ≡ m → ((x : Result Bytes TransportError) × answers t (put_of text) x t' × (r ≡ payload_in x)) → Went answers (point m t (Ready before)) (point m' t' (laying before text r)) []
   laid m m' t t' before text r same (x, h, is) = went_one (point m t (Ready before)) (Sends (put_of text) x) (point m' t' (laying before text r)) (h, same, (refl, ap (laying before text) is))
 
-  pub updated : (m m' : State) (t t' : T) (text : Bytes) (r : Result Bytes Stop) → m' ≡ m → ((x : Result Bytes TransportError) × answers t (update text) x t' × (r ≡ payload_in x)) → Went answers (point m t (Update text)) (point m' t' (hearing r)) []
-  updated m m' t t' text r same (x, h, is) = went_one (point m t (Update text)) (Sends (update text) x) (point m' t' (hearing r)) (h, same, (refl, ap hearing is))
+  pub updated : (m m' : State) (t t' : T) (text : Bytes) (left : Option (List ℕ)) (r : Result Bytes Stop) → m' ≡ m → ((x : Result Bytes TransportError) × answers t (update text) x t' × (r ≡ payload_in x)) → Went answers (point m t (Update text left)) (point m' t' (hearing (unwrap_or left (keys_to_try m)) r)) []
+  updated m m' t t' text left r same (x, h, is) =
+      let next = hearing (unwrap_or left (keys_to_try m)) in went_one (point m t (Update text left)) (Sends (update text) x) (point m' t' (next r)) (h, same, (refl, ap next is))
+
+  pub resigned : (m m' : State) (t : T) (n : ℕ) (keys : List ℕ) (x : Result Bytes ClientError) → Leads m (Resigns n x) m' → Went answers (point m t (Resign n keys)) (point m' t (resigning keys x)) []
+  resigned m m' t n keys x h = went_one (point m t (Resign n keys)) (Calls (Resigns n x)) (point m' t (resigning keys x)) (h, refl, (refl, refl))
 
   pub heard : (m m' : State) (t : T) (text : Bytes) (x : Result Asks ClientError) → Leads m (Hears text x) m' → Went answers (point m t (Hear text)) (point m' t (checking x)) []
   heard m m' t text x h = went_one (point m t (Hear text)) (Calls (Hears text x)) (point m' t (checking x)) (h, refl, (refl, refl))
@@ -96,6 +104,10 @@ module _ {T : Type 0} {answers : Answering T} where
 
   pub gave : (m m' : State) (t : T) (q : Question) (block : Option Bytes) (x : Result Sees ClientError) → Leads m (Gives q block x) m' → Went answers (point m t (GiveAt q block)) (point m' t (looking q x)) (looks (seen_by q x))
   gave m m' t q block x h = went_one (point m t (GiveAt q block)) (Calls (Gives q block x)) (point m' t (looking q x)) (h, refl, (refl, refl, refl))
+
+  -- the newest key lacks leaves for an operation
+  pub lacks_leaves : (m : State) (t : T) (e : Stop) → can_declare m ≡ false → e ≡ stop.Client error.NoLeaf → Went answers (point m t (Ready [])) (point m t (Over e)) (Unbegun ∷ [])
+  lacks_leaves m t e lacks is = went_one (point m t (Ready [])) LacksLeaves (point m t (Over e)) (refl, refl, (lacks, ap Over is))
 
   -- memory runs out for an operation that is planned, or for the numbers of lost changes before a new structure is sent
   pub lacks_plan : (m : State) (t : T) (e : Stop) → e ≡ stop.Memory → Went answers (point m t (Ready [])) (point m t (Over e)) (Unplanned ∷ [])

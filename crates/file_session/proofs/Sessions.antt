@@ -1,11 +1,12 @@
 -- Sessions, from their parts.
-use Rattle.std.proofs.Common.{◌≡◌, ◌⊎◌, inl, inr, ℕ, List, [], ◌∷◌, ◌++◌, Option, None, Result, Ok, Err, refl, sym, ap, ◌∙◌, subst, map, append-nil}
+use Rattle.std.proofs.Common.{◌≡◌, ◌⊎◌, inl, inr, ℕ, false, List, [], ◌∷◌, ◌++◌, Option, None, Result, Ok, Err, refl, sym, ap, ◌∙◌, subst, map, append-nil}
 use Rattle.std.specs.Vec.{vec_items}
 use Rattle.std.specs.declared.vec.Vec.{Vec}
 use Rattle.client_steps.specs.Anywhere.{on_ok}
 use Rattle.layout.specs.Types.{Bytes, Digest, User}
 use Rattle.update_cert.specs.Change.{Change}
 use Rattle.update_cert.specs.World.{Tree}
+use Rattle.client_releases.specs.declared.error.ClientError.TheVariants as error
 use Rattle.client_verify.specs.State.{State}
 use Rattle.commands.specs.Answers.{Answer, answer_of}
 use Rattle.commands.specs.Asked.{Outcome, Tells, Writes, outcome, told_of_lost}
@@ -13,13 +14,15 @@ use Rattle.commands.specs.declared.command.Command.{Command}
 use Rattle.file_session.specs.declared.planning.Plan.TheVariants as plan
 use Rattle.file_session.specs.declared.planning.Operation.{Operation}
 use Rattle.file_session.specs.declared.stop.Stop.{Stop}
+use Rattle.file_session.specs.declared.stop.Stop.TheVariants as stop
 use Rattle.file_session.specs.Order.{Next, Ready, Over, ready_or, resuming}
 use Rattle.file_session.specs.Parts.{CantPlan, Carried, IsEnded, IsPlanOf, IsWrite, Planned, Wrote}
-use Rattle.file_session.specs.Sessions.{IsAsked, IsCarriedOut, IsDone, IsFinished, IsUncommitted, IsUnfinished, Ran, Resumed}
-use Rattle.file_session.specs.Went.{Agrees, Answering, At, point, Event, Begun, Saw, Seen, Signed, Unplanned, Looked, looks, signs, Went, Finished, Operated}
+use Rattle.file_session.specs.Sessions.{IsAsked, IsDone, IsFinished, IsResumed, IsUncommitted, IsUnfinished, Ran, Resumed}
+use Rattle.file_session.specs.Tries.{can_declare}
+use Rattle.file_session.specs.Went.{Agrees, Answering, At, point, Event, Begun, Saw, Seen, Signed, Unbegun, Unplanned, Looked, looks, signs, Went, Finished, Operated}
 use Rattle.file_session.proofs.Given.{given_from}
 use Rattle.file_session.proofs.Once.{asked_once}
-use Rattle.file_session.proofs.Runs.{went_as, went_then}
+use Rattle.file_session.proofs.Runs.{lacks_leaves, went_as, went_then}
 
 tells_are : {A : Type 0} (o : Outcome) (x : _) → IsPlanOf {A = A} o (plan.Tells x) → o ≡ Tells (answer_of x)
 tells_are (Tells told) x is = ap Tells (sym is)
@@ -29,6 +32,11 @@ tells_are (Writes wanted) x is = absurd is
 asks : {A : Type 0} {u : User} {command : Command} (op : Operation A) (o : Outcome) (seen : List Seen) → ((tree : Tree) → Agrees tree seen → outcome u command tree ≡ o) → IsPlanOf {A = A} o (plan.Writes op) → IsAsked u command seen op.changes.items (map vec_items op.texts.items)
 asks op (Tells told) seen agrees is = absurd is
 asks op (Writes wanted) seen agrees is = record { wanted = wanted; asked = agrees; changes_are = is.0; laid_are = is.1 }
+
+-- once the command was reached, what was to be finished first is
+reached : {X : Type 0} (s : State) (signed : List (List ℕ)) (es : List Event) (r : Result X Stop) (resumed : Option Resumed) (new : State) → (es ≡ [] → ⊥) → IsFinished s signed resumed → IsResumed s signed es r resumed new
+reached s signed [] r resumed new some h = absurd (some refl)
+reached s signed (e ∷ es) r resumed new some h = h
 
 -- what is told of an operation, by what it lost or by what stopped it
 abbrev pub told_by : Result (List ℕ) Stop → Result Answer Stop
@@ -48,6 +56,9 @@ done_by {u} {command} {seen} new changes laid (Begun begun texts ∷ es) (Err e)
   where
     both : changes ≡ begun → laid ≡ texts → ◌≡◌ {A = List (Change Digest) × List Bytes} (changes, laid) (begun, texts)
     both one other = λ i. (one i, other i)
+done_by new changes laid (Unbegun ∷ []) (Ok lost) asked is = absurd is
+done_by new changes laid (Unbegun ∷ []) (Err e) asked is = (asked.wanted, asked.asked)
+done_by new changes laid (Unbegun ∷ (x ∷ es)) r asked is = absurd is
 done_by new changes laid (Saw s ∷ es) r asked is = absurd is
 done_by new changes laid (Signed lost ∷ es) r asked is = absurd is
 done_by new changes laid (Unplanned ∷ es) r asked is = absurd is
@@ -70,18 +81,28 @@ module _ {T : Type 0} {answers : Answering T} where
   wrote_by (Ok lost) h k = wrote lost.items h k
   wrote_by (Err e) h k = wrote_not h k
 
+  -- or it wasn't begun, for want of leaves
+  pub wrote_none : {changes : List (Change Digest)} {laid : List Bytes} (m : State) (t : T) (e : Stop) → can_declare m ≡ false → e ≡ stop.Client error.NoLeaf → Wrote answers (point m t (Ready [])) (point m t (Over e)) changes laid (Err e)
+  wrote_none m t e lacks is = record { es = Unbegun ∷ []; went = lacks_leaves m t e lacks is; written = tt }
+
   -- ---- a command
+
+  -- the look wasn't begun, for want of leaves
+  pub carried_none : (u : User) (c : Command) (m : State) (t : T) (e : Stop) → can_declare m ≡ false → e ≡ stop.Client error.NoLeaf → Carried answers (point m t (Ready [])) (point m t (Over e)) u c (Err e)
+  carried_none u c m t e lacks is = record { es = Unbegun ∷ []; went = lacks_leaves m t e lacks is; some = λ none. cc none; carried = tt }
 
   -- the look was stopped, before or after it was signed
   stopped_at : {a b : At T} (u : User) (c : Command) (e : Stop) (signed : List (List ℕ)) → Went answers a b (Begun [] [] ∷ signs signed) → IsUncommitted signed b.client → Carried answers a b u c (Err e)
   stopped_at u c e [] went uncommitted = record {
     es = Begun [] [] ∷ [];
     went = went;
+    some = λ none. cc none;
     carried = record { signed = []; seen = []; written = []; order = refl; done = inl (refl, refl, refl, tt) };
   }
   stopped_at u c e (lost ∷ []) went uncommitted = record {
     es = Begun [] [] ∷ (Signed lost ∷ []);
     went = went;
+    some = λ none. cc none;
     carried = record { signed = lost ∷ []; seen = []; written = []; order = refl; done = inr (lost, refl, tt) };
   }
   stopped_at u c e (lost ∷ (other ∷ signed)) went uncommitted = absurd uncommitted
@@ -95,6 +116,7 @@ module _ {T : Type 0} {answers : Answering T} where
   after_looks k seen written went done = record {
     es = Begun [] [] ∷ (signs k.signed ++ (looks seen ++ written));
     went = went_then k.went went;
+    some = λ none. cc none;
     carried = record { signed = k.signed; seen = seen; written = written; order = refl; done = inr (k.lost.0, k.lost.1, done) };
   }
 
@@ -141,15 +163,14 @@ module _ {T : Type 0} {answers : Answering T} where
   pub ran : (s mid new : State) (t t1 t' : T) (u : User) (c : Command) (resumed : Option Resumed) (r : Result Answer Stop) → Finished answers (point s t (resuming s.phase s.text)) (point mid t1 (Ready [])) (λ signed. IsFinished s signed resumed) → Carried answers (point mid t1 (Ready [])) (point new t' (ready_or r)) u c r → Ran answers s t u c new t' resumed r
   ran s mid new t t1 t' u c resumed r h k =
       let both = went_then h.went k.went in
-      let o = k.carried in
       record {
         moves = both.moves;
         signed = h.signed;
-        es = Begun [] [] ∷ (signs o.signed ++ (looks o.seen ++ o.written));
+        es = k.es;
         run = both.run;
-        order = both.told ∙ ap (λ es. signs h.signed ++ es) o.order;
-        finished = h.lost;
-        carried = subst (λ es. IsCarriedOut u c es r new) o.order o;
+        order = both.told;
+        finished = reached s h.signed k.es r resumed new k.some h.lost;
+        carried = k.carried;
         given = given_from answers (point s t (resuming s.phase s.text)) (point new t' (ready_or r)) s.phase s.text both.moves r refl refl both.run;
         once = asked_once answers (point s t (resuming s.phase s.text)) both.moves (point new t' (ready_or r)) both.run;
       }

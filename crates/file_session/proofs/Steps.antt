@@ -19,7 +19,7 @@ use Rattle.client_verify.specs.Standing.{HasMore, IsLacking, LookHoldsMore, Only
 use Rattle.client_verify.specs.Standing as client
 use Rattle.client_verify.specs.Holding.{LookHoldsAfter}
 use Rattle.client_verify.specs.Looked.{Looked}
-use Rattle.client_steps.specs.Steps.{FromOpen, HasLooked, IsSound, Open, principal_of}
+use Rattle.client_steps.specs.Steps.{FromOpen, HasLooked, HasResigned, IsSound, Open, principal_of}
 use Rattle.client_steps.specs.Anywhere.{asked, on_ok, seen}
 use Rattle.client_steps.proofs.Anywhere.{look_holds, looked}
 use Rattle.client_tree.specs.declared.questions.Question.{Question}
@@ -78,6 +78,31 @@ sign_unfinished s new (Err error.NoNumber) some is ok device err = declared_is n
 sign_unfinished s new (Err error.NoKey) some is ok device err = declared_is new (ap (λ (n : State). n.phase) (err (λ e. absurd cc)) ∙ is)
 sign_unfinished s new (Err error.Foreign) some is ok device err = declared_is new (ap (λ (n : State). n.phase) (err (λ e. absurd cc)) ∙ is)
 sign_unfinished s new (Err error.Damaged) some is ok device err = declared_is new (ap (λ (n : State). n.phase) (err (λ e. absurd cc)) ∙ is)
+
+-- ---- the declared certificate was signed again, or it wasn't
+
+module _ (s new : State) (n : ℕ) where
+  -- the operation isn't committed
+  pub resign_unfinished : (x : Result Bytes ClientError) → HasResigned s n x new → IsUnfinished new
+  resign_unfinished (Ok text) h = declared_is new (ap (λ (t : State). t.phase) h.resigned.2 ∙ h.declared)
+  resign_unfinished (Err error.Device) h = failed_is new (ap (λ (t : State). t.phase) (h.fails refl))
+  resign_unfinished (Err error.Memory) h = declared_is new (ap (λ (t : State). t.phase) (h.err (λ e. absurd cc)) ∙ h.declared)
+  resign_unfinished (Err error.NoLeaf) h = declared_is new (ap (λ (t : State). t.phase) (h.err (λ e. absurd cc)) ∙ h.declared)
+  resign_unfinished (Err error.NoNumber) h = declared_is new (ap (λ (t : State). t.phase) (h.err (λ e. absurd cc)) ∙ h.declared)
+  resign_unfinished (Err error.NoKey) h = declared_is new (ap (λ (t : State). t.phase) (h.err (λ e. absurd cc)) ∙ h.declared)
+  resign_unfinished (Err error.Foreign) h = declared_is new (ap (λ (t : State). t.phase) (h.err (λ e. absurd cc)) ∙ h.declared)
+  resign_unfinished (Err error.Damaged) h = declared_is new (ap (λ (t : State). t.phase) (h.err (λ e. absurd cc)) ∙ h.declared)
+
+  -- the keys are the same
+  pub resign_secrets : (x : Result Bytes ClientError) → HasResigned s n x new → new.secrets ≡ s.secrets
+  resign_secrets (Ok text) h = ap (λ (t : State). t.secrets) h.resigned.2
+  resign_secrets (Err error.Device) h = ap (λ (t : State). t.secrets) (h.fails refl)
+  resign_secrets (Err error.Memory) h = ap (λ (t : State). t.secrets) (h.err (λ e. absurd cc))
+  resign_secrets (Err error.NoLeaf) h = ap (λ (t : State). t.secrets) (h.err (λ e. absurd cc))
+  resign_secrets (Err error.NoNumber) h = ap (λ (t : State). t.secrets) (h.err (λ e. absurd cc))
+  resign_secrets (Err error.NoKey) h = ap (λ (t : State). t.secrets) (h.err (λ e. absurd cc))
+  resign_secrets (Err error.Foreign) h = ap (λ (t : State). t.secrets) (h.err (λ e. absurd cc))
+  resign_secrets (Err error.Damaged) h = ap (λ (t : State). t.secrets) (h.err (λ e. absurd cc))
 
 -- ---- blocks that are held
 

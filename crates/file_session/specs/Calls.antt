@@ -18,6 +18,7 @@ use Rattle.client_steps.specs.Steps as steps
 -- loses, and that of a block for a look with the question.
 pub data Call : Type 0 where
   Begins : List (Change Digest) → List Bytes → Result Bytes ClientError → Call
+  Resigns : ℕ → Result Bytes ClientError → Call
   Hears : Bytes → Result Asks ClientError → Call
   Takes : Option Bytes → Result Asks ClientError → Call
   Signs : Result Bytes ClientError → List ℕ → Call
@@ -28,6 +29,7 @@ pub data Call : Type 0 where
 -- the call, as a step of a run of the client
 abbrev pub step_of : Call → steps.Call
 step_of (Begins changes laid x) = steps.Begins changes laid x
+step_of (Resigns n x) = steps.Resigns n x
 step_of (Hears text x) = steps.Hears text x
 step_of (Takes block x) = steps.Takes block x
 step_of (Signs x lost) = steps.Signs x

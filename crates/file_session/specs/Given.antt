@@ -4,6 +4,7 @@ use Rattle.layout.specs.Types.{Bytes}
 use Rattle.wire.specs.Frame.{reply_of}
 use Rattle.wire.specs.declared.kinds.Status.{Status}
 use Rattle.client_releases.specs.declared.error.ClientError.{ClientError}
+use Rattle.client_releases.specs.declared.error.ClientError.TheVariants as error
 use Rattle.client_verify.specs.declared.look.Look.TheVariants as look
 use Rattle.client_verify.specs.declared.step.Step.TheVariants as step
 use Rattle.client_steps.specs.Steps.{Asks, Sees}
@@ -11,8 +12,8 @@ use Rattle.file_session.specs.declared.stop.Stop.{Stop}
 use Rattle.file_session.specs.declared.stop.Stop.TheVariants as stop
 use Rattle.transport.specs.declared.transport.TransportError.{TransportError}
 use Rattle.transport.specs.declared.transport.TransportError.TheVariants as fault
-use Rattle.file_session.specs.Calls.{Begins, Hears, Takes, Signs, Commits, Looks, Gives}
-use Rattle.file_session.specs.Order.{Move, Calls, Sends, LacksPlan, LacksNumbers}
+use Rattle.file_session.specs.Calls.{Begins, Resigns, Hears, Takes, Signs, Commits, Looks, Gives}
+use Rattle.file_session.specs.Order.{Move, Calls, Sends, LacksLeaves, LacksPlan, LacksNumbers}
 
 abbrev pub GaveText : Result Bytes ClientError → Stop → Type 0
 GaveText (Ok text) e = ⊥
@@ -40,10 +41,11 @@ GaveAnswer (Err fault.Fault) e = e ≡ stop.Cut
 GaveAnswer (Err fault.NoFrame) e = e ≡ stop.Cut
 GaveAnswer (Err fault.Memory) e = e ≡ stop.Memory
 
--- this move gave this: the client by its error or a broken rule, the server by its status or by what is no reply, the
--- transport by its fault, or the session itself was refused memory
+-- this move gave this: the client by its error, its want of leaves or a broken rule, the server by its status or by
+-- what is no reply, the transport by its fault, or the session itself was refused memory
 abbrev pub Gave : Move → Stop → Type 0
 Gave (Calls (Begins changes laid x)) e = GaveText x e
+Gave (Calls (Resigns n x)) e = GaveText x e
 Gave (Calls (Hears reply x)) e = GaveStep x e
 Gave (Calls (Takes block x)) e = GaveStep x e
 Gave (Calls (Signs x lost)) e = GaveText x e
@@ -51,6 +53,7 @@ Gave (Calls (Commits told)) e = e ≡ stop.Declined told
 Gave (Calls (Looks q x)) e = GaveLook x e
 Gave (Calls (Gives q block x)) e = GaveLook x e
 Gave (Sends r x) e = GaveAnswer x e
+Gave LacksLeaves e = e ≡ stop.Client error.NoLeaf
 Gave LacksPlan e = e ≡ stop.Memory
 Gave LacksNumbers e = e ≡ stop.Memory
 

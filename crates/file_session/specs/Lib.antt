@@ -1,6 +1,7 @@
 pub mod Replies
 pub mod Declaring
 pub mod Calls
+pub mod Tries
 pub mod Order
 pub mod Went
 pub mod Given

@@ -1,5 +1,6 @@
 -- The order of an operation: what has to come next in a session, and what may come of each move.
-use Rattle.std.specs.Prelude.{◌≡◌, ℕ, List, [], ◌∷◌, ◌++◌, map, Option, Result, Ok, Err}
+use Rattle.std.specs.Prelude.{◌≡◌, ℕ, true, false, List, [], ◌∷◌, ◌++◌, map, Option, Some, None, Result, Ok, Err}
+use Rattle.std.specs.Option.{unwrap_or}
 use Rattle.std.specs.Vec.{vec_items}
 use Rattle.std.specs.declared.vec.Vec.{Vec}
 use Rattle.layout.specs.Types.{Bytes, Digest}
@@ -19,13 +20,16 @@ use Rattle.file_session.specs.declared.stop.Stop.TheVariants as stop
 use Rattle.transport.specs.declared.transport.TransportError.{TransportError}
 use Rattle.transport.specs.Asked.{Asked}
 use Rattle.file_session.specs.Replies.{payload_in, block_in, status_in}
-use Rattle.file_session.specs.Calls.{Call, Begins, Hears, Takes, Signs, Commits, Looks, Gives}
+use Rattle.client_verify.specs.State.{State}
+use Rattle.file_session.specs.Calls.{Call, Begins, Resigns, Hears, Takes, Signs, Commits, Looks, Gives}
+use Rattle.file_session.specs.Tries.{can_declare, keys_to_try}
 
--- a call of the client, an exchange, or that the session itself is refused memory: for the operation that it plans, or
--- for the numbers of the changes that a view loses
+-- a call of the client, an exchange, that the newest key lacks leaves for an operation, or that the session itself is
+-- refused memory: for the operation that it plans, or for the numbers of the changes that a view loses
 pub data Move : Type 0 where
   Calls : Call → Move
   Sends : Asked → Result Bytes TransportError → Move
+  LacksLeaves : Move
   LacksPlan : Move
   LacksNumbers : Move
 
@@ -34,9 +38,11 @@ pub data Move : Type 0 where
 pub data Next : Type 0 where
   -- nothing is under way: an operation may begin for which these texts were stored, or a look where there are none
   Ready : List Bytes → Next
-  -- the certificate is to be sent, and its reply handed in
-  Update : Bytes → Next
+  -- the certificate is to be sent, and its reply handed in; once its signature was declined, these keys are left to try
+  Update : Bytes → Option (List ℕ) → Next
   Hear : Bytes → Next
+  -- its signature was declined, and it is to be signed again by this key; these are left then
+  Resign : ℕ → List ℕ → Next
   -- the block is to be asked for, and handed in
   Fetch : Digest → Next
   Take : Option Bytes → Next
@@ -58,12 +64,22 @@ laying laid text (Ok digest) = Ready (laid ++ text ∷ [])
 laying laid text (Err e) = Over e
 
 abbrev pub declaring : Result Bytes ClientError → Next
-declaring (Ok text) = Update text
+declaring (Ok text) = Update text None
 declaring (Err e) = Over (stop.Client e)
 
-abbrev pub hearing : Result Bytes Stop → Next
-hearing (Ok text) = Hear text
-hearing (Err e) = Over e
+-- where its signature is declined, the first of these keys signs it again; where there is none, it is declined for good
+abbrev pub trying : List ℕ → Next
+trying [] = Over (stop.Declined status.BadSignature)
+trying (n ∷ keys) = Resign n keys
+
+abbrev pub hearing : List ℕ → Result Bytes Stop → Next
+hearing keys (Ok text) = Hear text
+hearing keys (Err (stop.Declined status.BadSignature)) = trying keys
+hearing keys (Err e) = Over e
+
+abbrev pub resigning : List ℕ → Result Bytes ClientError → Next
+resigning keys (Ok text) = Update text (Some keys)
+resigning keys (Err e) = Over (stop.Client e)
 
 -- texts in memory
 abbrev pub texts_of : {A : Type 0} → Vec (Vec ℕ A) A → List Bytes
@@ -121,33 +137,37 @@ commit text = record { kind = kind.Commit; payload = text }
 abbrev pub FollowsStored : List Bytes → Asked → Result Bytes TransportError → Next → Type 0
 FollowsStored laid r x next = (r ≡ put r.payload) × (next ≡ laying laid r.payload (payload_in x))
 
--- From what has to come next, this move, and what has to come then.
-abbrev pub Follows : Next → Move → Next → Type 0
-Follows (Over e) move next = ⊥
-Follows (Ready laid) (Sends r x) next = FollowsStored laid r x next
-Follows (Ready laid) (Calls (Begins changes texts x)) next = (texts ≡ laid) × (next ≡ declaring x)
-Follows (Ready laid) (Calls (Looks q x)) next = (laid ≡ []) × (next ≡ looking q x)
-Follows (Ready []) LacksPlan next = next ≡ Over stop.Memory
-Follows (Update text) (Sends r x) next = (r ≡ update text) × (next ≡ hearing (payload_in x))
-Follows (Hear text) (Calls (Hears reply x)) next = (reply ≡ text) × (next ≡ checking x)
-Follows (Fetch digest) (Sends r x) next = (r ≡ get digest) × (next ≡ taking (block_in x))
-Follows (Take block) (Calls (Takes handed x)) next = (handed ≡ block) × (next ≡ checking x)
-Follows (Store (text ∷ texts)) (Sends r x) next = (r ≡ put text) × (next ≡ storing texts (payload_in x))
-Follows (Store []) (Calls (Signs x lost)) next = next ≡ committing x lost
-Follows (CommitNew text lost) (Sends r x) next = (r ≡ commit text) × (next ≡ telling (status_in x))
-Follows (CommitNew text (n ∷ lost)) LacksNumbers next = next ≡ Over stop.Memory
-Follows (Commit text) (Sends r x) next = (r ≡ commit text) × (next ≡ telling (status_in x))
-Follows (Tell told) (Calls (Commits handed)) next = (handed ≡ told) × (next ≡ committed told)
-Follows (FetchAt q digest) (Sends r x) next = (r ≡ get digest) × (next ≡ giving q (block_in x))
-Follows (GiveAt q block) (Calls (Gives p handed x)) next = (p ≡ q) × (handed ≡ block) × (next ≡ looking q x)
-Follows now move next = ⊥
+-- From what has to come next, this move of a client that is so before it, and what has to come then.
+abbrev pub Follows : State → Next → Move → Next → Type 0
+Follows s (Over e) move next = ⊥
+Follows s (Ready laid) (Sends r x) next = FollowsStored laid r x next
+Follows s (Ready laid) (Calls (Begins changes texts x)) next =
+    (can_declare s ≡ true) × (texts ≡ laid) × (next ≡ declaring x)
+Follows s (Ready laid) (Calls (Looks q x)) next = (laid ≡ []) × (next ≡ looking q x)
+Follows s (Ready []) LacksLeaves next = (can_declare s ≡ false) × (next ≡ Over (stop.Client error.NoLeaf))
+Follows s (Ready []) LacksPlan next = next ≡ Over stop.Memory
+Follows s (Update text left) (Sends r x) next =
+    (r ≡ update text) × (next ≡ hearing (unwrap_or left (keys_to_try s)) (payload_in x))
+Follows s (Resign n keys) (Calls (Resigns m x)) next = (m ≡ n) × (next ≡ resigning keys x)
+Follows s (Hear text) (Calls (Hears reply x)) next = (reply ≡ text) × (next ≡ checking x)
+Follows s (Fetch digest) (Sends r x) next = (r ≡ get digest) × (next ≡ taking (block_in x))
+Follows s (Take block) (Calls (Takes handed x)) next = (handed ≡ block) × (next ≡ checking x)
+Follows s (Store (text ∷ texts)) (Sends r x) next = (r ≡ put text) × (next ≡ storing texts (payload_in x))
+Follows s (Store []) (Calls (Signs x lost)) next = next ≡ committing x lost
+Follows s (CommitNew text lost) (Sends r x) next = (r ≡ commit text) × (next ≡ telling (status_in x))
+Follows s (CommitNew text (n ∷ lost)) LacksNumbers next = next ≡ Over stop.Memory
+Follows s (Commit text) (Sends r x) next = (r ≡ commit text) × (next ≡ telling (status_in x))
+Follows s (Tell told) (Calls (Commits handed)) next = (handed ≡ told) × (next ≡ committed told)
+Follows s (FetchAt q digest) (Sends r x) next = (r ≡ get digest) × (next ≡ giving q (block_in x))
+Follows s (GiveAt q block) (Calls (Gives p handed x)) next = (p ≡ q) × (handed ≡ block) × (next ≡ looking q x)
+Follows s now move next = ⊥
 
 -- ---- where a session begins and ends
 
 -- what was declared or signed before is finished first, and a client that failed does nothing
 abbrev pub resuming : Phase → Bytes → Next
 resuming phase.Idle text = Ready []
-resuming phase.Declared text = Update text
+resuming phase.Declared text = Update text None
 resuming phase.Signed text = Commit text
 resuming phase.Failed text = Over (stop.Client error.Device)
 

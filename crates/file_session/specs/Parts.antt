@@ -29,8 +29,9 @@ use Rattle.file_session.specs.declared.texts.New.{New as NewContent}
 use Rattle.file_session.specs.declared.texts.New.TheVariants as new
 use Rattle.file_session.specs.declared.stop.Stop.{Stop}
 use Rattle.file_session.specs.Declaring.{all_declared, all_texts}
-use Rattle.file_session.specs.Sessions.{IsCarriedOut, IsUncommitted}
-use Rattle.file_session.specs.Went.{Answering, At as Point, Event, Begun, Saw, Signed, Unplanned, looks, signs, Went}
+use Rattle.file_session.specs.Sessions.{IsCommand, IsUncommitted}
+use Rattle.file_session.specs.Went.{Answering, At as Point, Event, Begun, Saw, Signed, Unbegun, Unplanned, looks}
+use Rattle.file_session.specs.Went.{signs, Went}
 use Rattle.file_session.specs.Went.{Agrees, Looked, Seen}
 
 -- ---- the write
@@ -53,6 +54,8 @@ IsWrite changes laid (Begun begun texts ∷ es) (Ok lost) new =
     (begun ≡ changes) × (texts ≡ laid) × (es ≡ Signed lost ∷ [])
 IsWrite changes laid (Begun begun texts ∷ es) (Err e) new =
     (begun ≡ changes) × (texts ≡ laid) × ((signed : List (List ℕ)) × (es ≡ signs signed) × IsUncommitted signed new)
+IsWrite changes laid (Unbegun ∷ []) (Err e) new = Unit {0}
+IsWrite changes laid (Unbegun ∷ es) result new = ⊥
 IsWrite changes laid (Saw s ∷ es) result new = ⊥
 IsWrite changes laid (Signed lost ∷ es) result new = ⊥
 IsWrite changes laid (Unplanned ∷ es) result new = ⊥
@@ -184,9 +187,10 @@ pub record Planned {T A : Type 0} (answers : Answering T) (a b : Point T) (comes
   pub is_plan : IfOk result (IsPlanOf outcome)
   pub can_begin : IfOk result CanBegin
 
--- by operations and looks, in which a command is carried out
+-- by operations and looks, in which a command is carried out, or by the want of leaves for its look
 pub record Carried {T : Type 0} (answers : Answering T) (a b : Point T) (u : User) (c : Command)
     (result : Result Answer Stop) : Type 0 where
   pub es : List Event
   pub went : Went answers a b es
-  pub carried : IsCarriedOut u c es result b.client
+  pub some : es ≡ [] → ⊥
+  pub carried : IsCommand u c es result b.client

@@ -19,7 +19,8 @@ use Rattle.file_session.specs.Declaring.{all_declared, all_texts}
 use Rattle.file_session.specs.Given.{IsGiven}
 use Rattle.file_session.specs.Calls.{AsksForLacking}
 use Rattle.file_session.specs.Order.{Move, Calls, ready_or, resuming}
-use Rattle.file_session.specs.Went.{Agrees, Answering, At, Event, Begun, Seen, Signed, Unplanned, events, looks, Moves}
+use Rattle.file_session.specs.Went.{Agrees, Answering, At, Event, Begun, Seen, Signed, Unbegun, Unplanned, events}
+use Rattle.file_session.specs.Went.{looks, Moves}
 use Rattle.file_session.specs.Went.{point, signs}
 
 -- ---- what was finished first
@@ -76,11 +77,13 @@ pub record IsAsked (u : User) (c : Command) (seen : List Seen) (changes : List (
   pub laid_are : laid ≡ all_texts wanted
 
 -- After these looks: the answer is the one that is told in each tree that agrees with them; or the operation that is
--- asked for was begun, for which its texts were stored, or memory was refused for it; or something stopped the session.
+-- asked for was begun, for which its texts were stored, or wasn't, for want of leaves or memory; or something stopped
+-- the session.
 abbrev pub IsDone : User → Command → List Seen → List Event → Result Answer Stop → State → Type 0
 IsDone u c seen [] (Ok answer) new = (tree : Tree) → Agrees tree seen → outcome u c tree ≡ Tells answer
 IsDone u c seen [] (Err e) new = Unit {0}
 IsDone u c seen (Begun changes laid ∷ es) result new = IsAsked u c seen changes laid × IsWritten es result new
+IsDone u c seen (Unbegun ∷ []) (Err e) new = (wanted : List (Change Content)) × Asks u c seen wanted
 IsDone u c seen (Unplanned ∷ []) (Err e) new = (wanted : List (Change Content)) × Asks u c seen wanted
 IsDone u c seen other result new = ⊥
 
@@ -95,8 +98,10 @@ pub record IsCarriedOut (u : User) (c : Command) (es : List Event) (result : Res
   pub done : ((signed ≡ []) × (seen ≡ []) × (written ≡ []) × IsStopped result)
       ⊎ ((lost : List ℕ) × (signed ≡ lost ∷ []) × IsDone u c seen written result new)
 
+-- nothing, where what was to be finished first was stopped; nor the look, for want of leaves
 abbrev pub IsCommand : User → Command → List Event → Result Answer Stop → State → Type 0
 IsCommand u c [] result new = Unit {0}
+IsCommand u c (Unbegun ∷ []) result new = IsStopped result
 IsCommand u c (e ∷ es) result new = IsCarriedOut u c (e ∷ es) result new
 
 -- ---- what is told

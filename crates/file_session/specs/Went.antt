@@ -13,7 +13,7 @@ use Rattle.client_steps.specs.Steps.{Sees}
 use Rattle.transport.specs.declared.transport.TransportError.{TransportError}
 use Rattle.transport.specs.Asked.{Asked}
 use Rattle.file_session.specs.Calls.{Begins, Signs, Looks, Gives, Leads}
-use Rattle.file_session.specs.Order.{Next, Follows, Move, Calls, Sends, LacksPlan}
+use Rattle.file_session.specs.Order.{Next, Follows, Move, Calls, Sends, LacksLeaves, LacksPlan}
 
 -- what a transport may answer: from this one, this request with its answer may lead to that one
 abbrev pub Answering : Type 0 → Type 1
@@ -31,11 +31,11 @@ point s t n = record { client = s; transport = t; next = n }
 -- A move: a call that the client may answer so, or an exchange that the transport may answer so, while the other stays.
 abbrev pub IsMove : {T : Type 0} → Answering T → At T → Move → At T → Type 0
 IsMove answers a (Calls call) b =
-    Leads a.client call b.client × (b.transport ≡ a.transport) × Follows a.next (Calls call) b.next
+    Leads a.client call b.client × (b.transport ≡ a.transport) × Follows a.client a.next (Calls call) b.next
 IsMove answers a (Sends r x) b =
-    answers a.transport r x b.transport × (b.client ≡ a.client) × Follows a.next (Sends r x) b.next
+    answers a.transport r x b.transport × (b.client ≡ a.client) × Follows a.client a.next (Sends r x) b.next
 IsMove answers a lacks b =
-    (b.client ≡ a.client) × (b.transport ≡ a.transport) × Follows a.next lacks b.next
+    (b.client ≡ a.client) × (b.transport ≡ a.transport) × Follows a.client a.next lacks b.next
 
 -- these moves, one after another
 abbrev pub Moves : {T : Type 0} → Answering T → At T → List Move → At T → Type 0
@@ -66,10 +66,12 @@ Agrees tree (s ∷ seen) = IsSeenIn tree s.question s.answer × Agrees tree seen
 
 -- ---- what moves tell
 
--- an operation of these changes was begun, for which these texts were laid out; a look was answered; a view was signed
--- that loses the changes of these numbers; or memory was refused for the operation that was planned
+-- an operation of these changes was begun, for which these texts were laid out; none was, for want of leaves; a look
+-- was answered; a view was signed that loses the changes of these numbers; or memory was refused for the operation that
+-- was planned
 pub data Event : Type 0 where
   Begun : List (Change Digest) → List Bytes → Event
+  Unbegun : Event
   Saw : Seen → Event
   Signed : List ℕ → Event
   Unplanned : Event
@@ -97,6 +99,7 @@ events_of (Calls (Begins changes laid x)) = Begun changes laid ∷ []
 events_of (Calls (Signs x lost)) = signs (signed_by x lost)
 events_of (Calls (Looks q x)) = looks (seen_by q x)
 events_of (Calls (Gives q block x)) = looks (seen_by q x)
+events_of LacksLeaves = Unbegun ∷ []
 events_of LacksPlan = Unplanned ∷ []
 events_of other = []
 

@@ -1,14 +1,18 @@
 //! The calls of a client, each as a step of a run, and what the client waits for then.
 
-ghost use Rattle.std.specs.Prelude.{◌≡◌, ◌≤◌, IfOk, IfSome, IsSome, OnOk, length, map, true};
+ghost use Rattle.std.specs.Prelude.{◌≡◌, ◌≢◌, ◌≤◌, ℕ, IfOk, IfSome, IsSome, OnOk, length, map, true};
 ghost use Rattle.std.specs.Option.{option_copied};
 ghost use Rattle.std.specs.Vec.{vec_items};
 ghost use Rattle.layout.specs.Format.{IsBytes};
 ghost use Rattle.client_tree.specs.declared.questions.Question.{Question as Asking};
 ghost use Rattle.client_verify.specs.Laid.{are_laid};
 ghost use Rattle.client_steps.specs.Anywhere.{asked, on_ok, seen};
-ghost use Rattle.file_session.specs.Calls.{Begins, Commits, Gives, Hears, Leads, Looks, Signs, Takes, lost_of};
+ghost use Rattle.client_releases.specs.Told.{HasKey};
+ghost use Rattle.client_verify.specs.State.{released};
+ghost use Rattle.file_session.specs.Calls.{Begins, Commits, Gives, Hears, Leads, Looks, Resigns, Signs, Takes};
+ghost use Rattle.file_session.specs.Calls.{lost_of};
 ghost use Rattle.file_session.specs.Sessions.{IsUnfinished};
+ghost use Rattle.file_session.specs.Tries.{leaves_left};
 ghost use Rattle.file_session.specs.Waits.{AsksFewer, AsksFewerAt, Awaits, AwaitsAt, IsRange, WaitsAt, WaitsForBlock};
 
 use client_tree::Question;
@@ -33,6 +37,25 @@ pub(crate) fn begin<L: Device, J: Device, A: Allocator + Copy>(
     ensures text { IfOk result (λ text. text.items ≡ client.new.text) }
 {
     let text = client.begin(changes, laid);
+    client.type_invariant();
+    text
+}
+
+/// Signs the certificate that is declared once more, by this key, and gives it.
+pub(crate) fn resign<L: Device, J: Device, A: Allocator + Copy>(
+    client: &mut Client<L, J, A>,
+    key: usize,
+) -> Result<Vec<u8, A>, ClientError>
+    requires declared { client.old.phase ≡ Phase.Declared }
+    requires key { HasKey key (released client.old) }
+    ensures leads { Leads client.old (Resigns key (on_ok vec_items result)) client.new }
+    ensures declared { OnOk result (client.new.phase ≡ Phase.Declared) }
+    ensures text { IfOk result (λ text. text.items ≡ client.new.text) }
+    ensures unfinished { IsUnfinished client.new }
+    ensures secrets { client.new.secrets ≡ client.old.secrets }
+    ensures others { (n : ℕ) → n ≢ key → leaves_left client.new n ≡ leaves_left client.old n }
+{
+    let text = client.resign(key);
     client.type_invariant();
     text
 }

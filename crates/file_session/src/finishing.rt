@@ -1,6 +1,6 @@
 //! What was declared or signed is finished: the certificate is sent, its reply judged, the structure signed and sent.
 
-ghost use Rattle.std.specs.Prelude.{◌≡◌, [], IfErr, IfOk, IsSome, OnErr, OnOk};
+ghost use Rattle.std.specs.Prelude.{◌≡◌, [], IfErr, IfOk, IsSome, None, OnErr, OnOk};
 ghost use Rattle.file_session.specs.Calls.{lost_of};
 ghost use Rattle.file_session.specs.Order.{Commit, Store, Update, ready_or};
 ghost use Rattle.file_session.specs.Parts.{IsEnded};
@@ -9,13 +9,13 @@ ghost use Rattle.file_session.specs.Went.{Finished, Went, point};
 
 use crate::calls::{hear, sign, tell};
 use crate::conversation::Conversation;
-use crate::exchanging::{commit, send};
+use crate::exchanging::commit;
 use crate::stop::Stop;
 use client_verify::Phase;
 use leaf_ledger::Device;
 use std::alloc::Allocator;
-use transport::{Ahead, Transport};
-use wire::{RequestKind, Status};
+use transport::Transport;
+use wire::Status;
 
 impl<L: Device, J: Device, T: Transport<A>, A: Allocator + Copy> Conversation<L, J, T, A> {
     /// Commits the structure that was signed.
@@ -76,18 +76,14 @@ impl<L: Device, J: Device, T: Transport<A>, A: Allocator + Copy> Conversation<L,
     /// Sends the certificate that was declared, and goes on to the commit: the numbers of the changes that are lost.
     pub(crate) fn finish_declared(&mut self) -> Result<Vec<u8, A>, Stop>
         requires { self.old.client.phase ≡ Phase.Declared }
-        ensures finished { Finished T.answers (point self.old.client self.old.transport (Update self.old.client.text))
+        ensures finished { Finished T.answers
+            (point self.old.client self.old.transport (Update self.old.client.text None))
             (point self.new.client self.new.transport (ready_or result)) (IsEnded result self.new.client) }
         ensures idle { OnOk result (self.new.client.phase ≡ Phase.Idle) }
         ensures unfinished { OnErr result (IsUnfinished self.new.client) }
         ensures view { OnOk result (IsSome self.new.client.view) }
     {
-        let reply = send(
-            &mut self.transport,
-            RequestKind::Update,
-            self.client.declared(),
-            &Ahead::Nothing,
-        )?;
+        let reply = self.place()?;
         let first = hear(&mut self.client, reply.text());
         let texts = self.check(first)?;
         self.store(&texts)?;

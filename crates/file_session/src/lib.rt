@@ -7,6 +7,7 @@ mod conversation;
 mod exchanging;
 mod finishing;
 mod judging;
+mod leaves;
 mod listed;
 mod looking;
 mod operation;
@@ -16,6 +17,7 @@ mod session;
 mod site;
 mod stop;
 mod texts;
+mod trying;
 mod turn;
 mod walking;
 

@@ -7,6 +7,7 @@ ghost use Rattle.client_steps.specs.Anywhere.{on_ok};
 ghost use Rattle.file_session.specs.Order.{Ready, ready_or, resuming};
 ghost use Rattle.file_session.specs.Sessions.{IsFinished, IsUnfinished};
 ghost use Rattle.file_session.specs.Parts.{IsEnded, Wrote};
+ghost use Rattle.file_session.specs.Tries.{can_declare};
 ghost use Rattle.file_session.specs.Went.{Finished, Operated, point};
 
 use crate::calls::begin;
@@ -27,6 +28,7 @@ impl<L: Device, J: Device, T: Transport<A>, A: Allocator + Copy> Conversation<L,
         laid: &[Vec<u8, A>],
     ) -> Result<Vec<u8, A>, Stop>
         requires idle { self.old.client.phase ≡ Phase.Idle }
+        requires leaves { can_declare self.old.client ≡ true }
         requires few { length changes.now ≤ MOST_CHANGES }
         requires laid { are_laid (map vec_items laid.now) changes.now ≡ true }
         ensures operated { Operated T.answers
@@ -42,7 +44,8 @@ impl<L: Device, J: Device, T: Transport<A>, A: Allocator + Copy> Conversation<L,
         }
     }
 
-    /// An operation of these changes, whose texts are stored first: the numbers of those that had no effect.
+    /// An operation of these changes, whose texts are stored first: the numbers of those that had no effect. Nothing is
+    /// sent where the newest key hasn't the leaves for it.
     pub(crate) fn write(
         &mut self,
         changes: &[Change<A>],
@@ -55,6 +58,7 @@ impl<L: Device, J: Device, T: Transport<A>, A: Allocator + Copy> Conversation<L,
             (point self.new.client self.new.transport (ready_or result)) changes.now (map vec_items laid.now)
             (on_ok vec_items result) }
     {
+        self.leaves_suffice()?;
         self.store(laid)?;
         self.operate(changes, laid)
     }

@@ -1,6 +1,6 @@
 //! Sessions.
 
-ghost use Rattle.std.specs.Prelude.{◌≡◌, [], false, IfSome, IsSome, None, OnOk, Result};
+ghost use Rattle.std.specs.Prelude.{◌≡◌, [], false, true, IfSome, IsSome, None, OnOk, Result};
 ghost use Rattle.std.specs.Option.{option_copied};
 ghost use Rattle.client_releases.specs.declared.phase.Phase.TheVariants as phase;
 ghost use Rattle.client_steps.specs.Anywhere.{on_ok};
@@ -9,6 +9,7 @@ ghost use Rattle.commands.specs.Asked.{early, has_path, is_too_large, told_of_lo
 ghost use Rattle.file_session.specs.Order.{Ready, ready_or};
 ghost use Rattle.file_session.specs.Parts.{Carried, IsLookEnded};
 ghost use Rattle.file_session.specs.Sessions.{Ran, answered, refused_by, stopped_by};
+ghost use Rattle.file_session.specs.Tries.{can_declare};
 ghost use Rattle.file_session.specs.declared.stop.Stop.{Stop as Stopped};
 ghost use Rattle.file_session.specs.Went.{Operated, point};
 
@@ -113,7 +114,8 @@ fn early(command: &Command<'_>) -> Option<Refusal>
 impl<L: Device, J: Device, T: Transport<A>, A: Allocator + Copy> Conversation<L, J, T, A> {
     /// An operation without changes: from here on there is its view.
     fn look(&mut self) -> Result<(), Stop>
-        requires { self.old.client.phase ≡ phase.Idle }
+        requires idle { self.old.client.phase ≡ phase.Idle }
+        requires leaves { can_declare self.old.client ≡ true }
         ensures operated { Operated T.answers (point self.old.client self.old.transport (Ready []))
             (point self.new.client self.new.transport (ready_or result)) [] []
             (IsLookEnded result self.new.client) }
@@ -127,7 +129,8 @@ impl<L: Device, J: Device, T: Transport<A>, A: Allocator + Copy> Conversation<L,
         Ok(())
     }
 
-    /// Looks, and then writes what is asked for, if something is.
+    /// Looks, and then writes what is asked for, if something is. Neither is begun where the newest key hasn't the
+    /// leaves for it.
     fn carry_out(&mut self, user: User, command: &Command<'_>) -> Result<Answer<A>, Stop>
         requires idle { self.old.client.phase ≡ phase.Idle }
         requires small { is_too_large command.now ≡ false }
@@ -135,6 +138,7 @@ impl<L: Device, J: Device, T: Transport<A>, A: Allocator + Copy> Conversation<L,
             (point self.new.client self.new.transport (ready_or result)) user command.now
             (on_ok answer_of result) }
     {
+        self.leaves_suffice()?;
         self.look()?;
         match self.plan(user, command)? {
             Plan::Tells(answer) => Ok(answer),

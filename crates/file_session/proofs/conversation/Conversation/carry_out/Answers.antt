@@ -2,12 +2,17 @@ use Rattle.std.proofs.Common.{ap, map}
 use Rattle.std.specs.Prelude.{Err, Ok}
 use Rattle.std.specs.Vec.{vec_items}
 use Rattle.std.proofs.lemmas.Result.{err_from_is_err_and}
-use Rattle.file_session.proofs.Sessions.{carried_not, looked_not, tells, writes_as}
+use Rattle.file_session.proofs.Sessions.{carried_none, carried_not, looked_not, tells, writes_as}
 use Rattle.file_session.proofs.conversation.Conversation.carry_out.Goals as goal
+
+pub returns-in_err-leaves_suffice : goal.returns-in_err-leaves_suffice
+returns-in_err-leaves_suffice g c =
+    let p = err_from_is_err_and c.from_residual.result c.from_residual.ensures.1 in
+    rw (p.1, p.2) (carried_none _ _ _ _ _ c.in_err-leaves_suffice.ensures.lacks c.in_err-leaves_suffice.ensures.no_leaf)
 
 pub returns-in_err-look : goal.returns-in_err-look
 returns-in_err-look g c =
-    let p = err_from_is_err_and c.from_residual.result c.from_residual.ensures.1 in
+    let p = err_from_is_err_and c.from_residual-in_err-look.result c.from_residual-in_err-look.ensures.1 in
     rw (p.1, p.2) (carried_not _ _ _ c.in_err-look.ensures.operated)
 
 pub returns-in_err-answer : goal.returns-in_err-answer
