@@ -1,5 +1,6 @@
 -- From the call that begins an operation to the one that signs, it is the one that the client declared last.
 use Rattle.std.proofs.Common.{◌≡◌, ℕ, List, [], ◌∷◌, Option, Result, Ok, Err, refl, sym, subst}
+use Rattle.std.specs.Option.{unwrap_or}
 use Rattle.layout.specs.Types.{Bytes, Digest}
 use Rattle.update_cert.specs.Change.{Change}
 use Rattle.client_tree.specs.declared.questions.Question.{Question}
@@ -10,19 +11,21 @@ use Rattle.client_verify.specs.declared.look.Look.TheVariants as look
 use Rattle.client_verify.specs.declared.step.Step.TheVariants as step
 use Rattle.client_verify.specs.State.{State}
 use Rattle.client_runs.proofs.Quiet as quiet
-use Rattle.client_steps.specs.Steps.{Asks, HasBegun, Sees}
+use Rattle.client_steps.specs.Steps.{Asks, HasBegun, HasResigned, Sees}
 use Rattle.transport.specs.declared.transport.TransportError.{TransportError}
 use Rattle.transport.specs.Asked.{Asked}
 use Rattle.wire.specs.declared.kinds.Status.{Status}
 use Rattle.wire.specs.declared.kinds.Status.TheVariants as status
 use Rattle.file_session.specs.declared.stop.Stop.{Stop}
-use Rattle.file_session.specs.Calls.{Begins, Call, Commits, Gives, Hears, Looks, Signs, Takes}
+use Rattle.file_session.specs.declared.stop.Stop.TheVariants as stop
+use Rattle.file_session.specs.Calls.{Begins, Call, Commits, Gives, Hears, Looks, Resigns, Signs, Takes}
 use Rattle.file_session.specs.Calls as session
-use Rattle.file_session.specs.Order.{Calls, Commit, CommitNew, Fetch, FetchAt, Follows, GiveAt, Hear, LacksNumbers, LacksPlan, Next, Over, Ready, Sends, Store, Take, Tell, Update}
+use Rattle.file_session.specs.Order.{Calls, Commit, CommitNew, Fetch, FetchAt, Follows, GiveAt, Hear, LacksLeaves, LacksNumbers, LacksPlan, Next, Over, Ready, Resign, Sends, Store, Take, Tell, Update}
 use Rattle.file_session.specs.Order as order
 use Rattle.file_session.specs.Replies.{block_in, payload_in, status_in}
+use Rattle.file_session.specs.Tries.{keys_to_try}
 use Rattle.session_runs.specs.Told.{OfChanges, OfNumber, Operation}
-use Rattle.session_runs.proofs.Declared.{HasDeclared, begins, still_has}
+use Rattle.session_runs.proofs.Declared.{HasDeclared, begins, resigns, still_has}
 use Rattle.session_runs.proofs.Looking.{begins_next, commits_next, gives_next, looks_next, signs_next}
 
 abbrev pub begun_after : Call → Operation → Operation
@@ -31,7 +34,8 @@ begun_after other begun = begun
 
 -- while the operation is under way, it is the one that the client declared last
 abbrev pub IsUnderWay : Next → Operation → State → Type 0
-IsUnderWay (Update text) begun s = HasDeclared begun s
+IsUnderWay (Update text left) begun s = HasDeclared begun s
+IsUnderWay (Resign k keys) begun s = HasDeclared begun s
 IsUnderWay (Hear text) begun s = HasDeclared begun s
 IsUnderWay (Fetch digest) begun s = HasDeclared begun s
 IsUnderWay (Take block) begun s = HasDeclared begun s
@@ -56,9 +60,14 @@ module _ (begun : Operation) (s : State) where
   laying laid text (Ok digest) = tt
   laying laid text (Err e) = tt
 
-  hearing : (x : Result Bytes Stop) → HasDeclared begun s → IsUnderWay (order.hearing x) begun s
-  hearing (Ok text) has = has
-  hearing (Err e) has = tt
+  trying : (keys : List ℕ) → HasDeclared begun s → IsUnderWay (order.trying keys) begun s
+  trying [] has = tt
+  trying (k ∷ keys) has = has
+
+  hearing : (keys : List ℕ) (x : Result Bytes Stop) → HasDeclared begun s → IsUnderWay (order.hearing keys x) begun s
+  hearing keys (Ok text) has = has
+  hearing keys (Err (stop.Declined status.BadSignature)) has = trying keys has
+  hearing keys (Err other) has = tt
 
   checking : (x : Result Asks ClientError) → HasDeclared begun s → IsUnderWay (order.checking x) begun s
   checking (Ok (step.Need digest)) has = has
@@ -102,9 +111,9 @@ module _ (begun : Operation) (s : State) where
 
   -- ---- exchanges
 
-  pub sent : (n : Next) (r : Asked) (x : Result Bytes TransportError) (m : Next) → Follows n (Sends r x) m → IsUnderWay n begun s → IsUnderWay m begun s
+  pub sent : (n : Next) (r : Asked) (x : Result Bytes TransportError) (m : Next) → Follows s n (Sends r x) m → IsUnderWay n begun s → IsUnderWay m begun s
   sent (Ready laid) r x m h is = at_next m _ begun s h.1 (laying laid r.payload (payload_in x))
-  sent (Update text) r x m h is = at_next m _ begun s h.1 (hearing (payload_in x) is)
+  sent (Update text left) r x m h is = at_next m _ begun s h.1 (hearing (unwrap_or left (keys_to_try s)) (payload_in x) is)
   sent (Fetch digest) r x m h is = at_next m _ begun s h.1 (taking (block_in x) is)
   sent (Store (text ∷ texts)) r x m h is = at_next m _ begun s h.1 (storing texts (payload_in x) is)
   sent (Store []) r x m h is = absurd h
@@ -113,13 +122,23 @@ module _ (begun : Operation) (s : State) where
   sent (FetchAt q digest) r x m h is = at_next m _ begun s h.1 (giving q (block_in x))
   sent (Over e) r x m h is = absurd h
   sent (Hear text) r x m h is = absurd h
+  sent (Resign k keys) r x m h is = absurd h
   sent (Take block) r x m h is = absurd h
   sent (Tell told) r x m h is = absurd h
   sent (GiveAt q block) r x m h is = absurd h
 
-  -- ---- where memory is refused
+  -- ---- where leaves are lacking, or memory is refused
 
-  pub lacks_plan : (n m : Next) → Follows n LacksPlan m → IsUnderWay m begun s
+  pub lacks_leaves : (n m : Next) → Follows s n LacksLeaves m → IsUnderWay m begun s
+  lacks_leaves (Ready []) m h = at_next m _ begun s h.1 tt
+  lacks_leaves (Ready (t ∷ ts)) m h = absurd h
+  lacks_leaves (Store []) m h = absurd h
+  lacks_leaves (Store (t ∷ ts)) m h = absurd h
+  lacks_leaves (CommitNew text []) m h = absurd h
+  lacks_leaves (CommitNew text (k ∷ lost)) m h = absurd h
+  lacks_leaves other m h = absurd h
+
+  pub lacks_plan : (n m : Next) → Follows s n LacksPlan m → IsUnderWay m begun s
   lacks_plan (Ready []) m h = at_next m _ begun s h tt
   lacks_plan (Ready (t ∷ ts)) m h = absurd h
   lacks_plan (Store []) m h = absurd h
@@ -128,7 +147,7 @@ module _ (begun : Operation) (s : State) where
   lacks_plan (CommitNew text (k ∷ lost)) m h = absurd h
   lacks_plan other m h = absurd h
 
-  pub lacks_numbers : (n m : Next) → Follows n LacksNumbers m → IsUnderWay m begun s
+  pub lacks_numbers : (n m : Next) → Follows s n LacksNumbers m → IsUnderWay m begun s
   lacks_numbers (CommitNew text (k ∷ lost)) m h = at_next m _ begun s h tt
   lacks_numbers (CommitNew text []) m h = absurd h
   lacks_numbers (Ready []) m h = absurd h
@@ -140,18 +159,24 @@ module _ (begun : Operation) (s : State) where
   -- ---- calls
 
   -- a structure is signed while the operation is under way
-  pub signs_it : (n : Next) (x : Result Bytes ClientError) (lost : List ℕ) (m : Next) → Follows n (Calls (Signs x lost)) m → IsUnderWay n begun s → HasDeclared begun s
+  pub signs_it : (n : Next) (x : Result Bytes ClientError) (lost : List ℕ) (m : Next) → Follows s n (Calls (Signs x lost)) m → IsUnderWay n begun s → HasDeclared begun s
   signs_it (Store []) x lost m h is = is
   signs_it (Store (text ∷ texts)) x lost m h is = absurd h
   signs_it other x lost m h is = absurd h
 
-  hears_it : (n : Next) (text : Bytes) (x : Result Asks ClientError) (m : Next) → Follows n (Calls (Hears text x)) m → IsUnderWay n begun s → (m ≡ order.checking x) × HasDeclared begun s
+  resigns_it : (n : Next) (k : ℕ) (x : Result Bytes ClientError) (m : Next) → Follows s n (Calls (Resigns k x)) m → IsUnderWay n begun s → (keys : List ℕ) × (m ≡ order.resigning keys x) × HasDeclared begun s
+  resigns_it (Resign j keys) k x m h is = (keys, h.1, is)
+  resigns_it (Store []) k x m h is = absurd h
+  resigns_it (Store (t ∷ ts)) k x m h is = absurd h
+  resigns_it other k x m h is = absurd h
+
+  hears_it : (n : Next) (text : Bytes) (x : Result Asks ClientError) (m : Next) → Follows s n (Calls (Hears text x)) m → IsUnderWay n begun s → (m ≡ order.checking x) × HasDeclared begun s
   hears_it (Hear told) text x m h is = (h.1, is)
   hears_it (Store []) text x m h is = absurd h
   hears_it (Store (t ∷ ts)) text x m h is = absurd h
   hears_it other text x m h is = absurd h
 
-  takes_it : (n : Next) (block : Option Bytes) (x : Result Asks ClientError) (m : Next) → Follows n (Calls (Takes block x)) m → IsUnderWay n begun s → (m ≡ order.checking x) × HasDeclared begun s
+  takes_it : (n : Next) (block : Option Bytes) (x : Result Asks ClientError) (m : Next) → Follows s n (Calls (Takes block x)) m → IsUnderWay n begun s → (m ≡ order.checking x) × HasDeclared begun s
   takes_it (Take told) block x m h is = (h.1, is)
   takes_it (Store []) block x m h is = absurd h
   takes_it (Store (t ∷ ts)) block x m h is = absurd h
@@ -161,17 +186,24 @@ begun_next : (s new : State) (changes : List (Change Digest)) (laid : List Bytes
 begun_next s new changes laid (Ok text) b = begins s new changes laid text b
 begun_next s new changes laid (Err e) b = tt
 
-pub after_call : (n m : Next) (call : Call) (s new : State) (begun : Operation) → session.Leads s call new → Follows n (Calls call) m → IsUnderWay n begun s → IsUnderWay m (begun_after call begun) new
+resigned_next : (begun : Operation) (s new : State) (k : ℕ) (keys : List ℕ) (x : Result Bytes ClientError) → HasResigned s k x new → HasDeclared begun s → IsUnderWay (order.resigning keys x) begun new
+resigned_next begun s new k keys (Ok text) b has = resigns begun s new k text b has
+resigned_next begun s new k keys (Err e) b has = tt
+
+pub after_call : (n m : Next) (call : Call) (s new : State) (begun : Operation) → session.Leads s call new → Follows s n (Calls call) m → IsUnderWay n begun s → IsUnderWay m (begun_after call begun) new
 unfolding session.Leads
 after_call n m (Begins changes laid x) s new begun leads h is =
-    at_next m _ (OfChanges changes) new (begins_next n changes laid x m h) (begun_next s new changes laid x leads.0)
+    at_next m _ (OfChanges changes) new (begins_next s n changes laid x m h) (begun_next s new changes laid x leads.0)
+after_call n m (Resigns k x) s new begun leads h is =
+    let was = resigns_it begun s n k x m h is in
+    at_next m _ begun new was.1 (resigned_next begun s new k was.0 x leads.0 was.2)
 after_call n m (Hears text x) s new begun leads h is =
     let was = hears_it begun s n text x m h is in
     at_next m _ begun new was.0 (checking begun new x (still_has begun s new (quiet.hears s text x new leads.0) was.1))
 after_call n m (Takes block x) s new begun leads h is =
     let was = takes_it begun s n block x m h is in
     at_next m _ begun new was.0 (checking begun new x (still_has begun s new (quiet.takes s block x new leads.0) was.1))
-after_call n m (Signs x lost) s new begun leads h is = at_next m _ begun new (signs_next n x lost m h) (committing begun new x lost)
-after_call n m (Commits st) s new begun leads h is = at_next m _ begun new (commits_next n st m h) (committed begun new st)
-after_call n m (Looks q x) s new begun leads h is = at_next m _ begun new (looks_next n q x m h) (looking begun new q x)
-after_call n m (Gives q block x) s new begun leads h is = at_next m _ begun new (gives_next n q block x m h) (looking begun new q x)
+after_call n m (Signs x lost) s new begun leads h is = at_next m _ begun new (signs_next s n x lost m h) (committing begun new x lost)
+after_call n m (Commits st) s new begun leads h is = at_next m _ begun new (commits_next s n st m h) (committed begun new st)
+after_call n m (Looks q x) s new begun leads h is = at_next m _ begun new (looks_next s n q x m h) (looking begun new q x)
+after_call n m (Gives q block x) s new begun leads h is = at_next m _ begun new (gives_next s n q block x m h) (looking begun new q x)

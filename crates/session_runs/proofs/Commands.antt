@@ -10,7 +10,7 @@ use Rattle.commands.specs.Asked.{Tells, outcome}
 use Rattle.commands.specs.declared.command.Command.{Command}
 use Rattle.file_session.specs.declared.stop.Stop.{Stop}
 use Rattle.file_session.specs.Sessions.{IsCarriedOut, IsCommand, IsDone, IsResumed, Resumed}
-use Rattle.file_session.specs.Went.{Agrees, Answering, Begun, Event, Saw, Seen, Signed, Unplanned, looks, signs}
+use Rattle.file_session.specs.Went.{Agrees, Answering, Begun, Event, Saw, Seen, Signed, Unbegun, Unplanned, looks, signs}
 use Rattle.session_runs.specs.Lives.{Carried}
 use Rattle.fork_consistency.specs.Worlds.{AreLost}
 use Rattle.session_runs.specs.Told.{AreTold, AreWritten, IsAnswered, IsOwn, IsOwnOperation, MovesTell, OfChanges, OfNumber, Operation, TellsWorlds, seen_by, signed_texts}
@@ -40,6 +40,8 @@ module _ (reads : Reading) (key : Key) (accepted : List View) (u : User) (texts 
         let w = done.1 in
         let of : Told (Some x) (OfChanges changes) (Signed w.0 ∷ []) = subst (Told (Some x) (OfChanges changes)) w.1 told in
         inr (record { wanted = asked.wanted; asked = asked.asked (seen_by reads key accepted x) agrees; view = of.0; own = of.1; declared = of.2 ∙ asked.changes_are; lost = w.0; loses = of.3; told = w.2 })
+    written x begun seen (Unbegun ∷ []) agrees done told = absurd done
+    written x begun seen (Unbegun ∷ (e ∷ es)) agrees done told = absurd done
     written x begun seen (Saw s ∷ es) agrees done told = absurd done
     written x begun seen (Signed lost ∷ es) agrees done told = absurd done
     written x begun seen (Unplanned ∷ []) agrees done told = absurd done
@@ -59,6 +61,8 @@ module _ (reads : Reading) (key : Key) (accepted : List View) (u : User) (texts 
     -- the answer of a command that was reached
     answered : (es : List Event) → IsCommand u c es (Ok answer) new → (es ≡ [] → ⊥) → (last : Option View) (begun : Operation) → Told last begun es → IsAnswered reads key accepted u texts c answer
     answered [] command some last begun told = absurd (some refl)
+    answered (Unbegun ∷ []) command some last begun told = absurd command
+    answered (Unbegun ∷ (e ∷ es)) command some last begun told = carried (Unbegun ∷ (e ∷ es)) command last begun told
     answered (e ∷ es) command some last begun told = carried (e ∷ es) command last begun told
 
   -- ---- what was finished first

@@ -1,6 +1,6 @@
 -- The own certificate of the view in hand is the one that the client declared last, and while the session's operation is
 -- under way, that is the one that the session began.
-use Rattle.std.proofs.Common.{◌≡◌, ◌-◌, Bool, true, false, List, [], ◌∷◌, ◌++◌, length, Option, Some, None, Ok, Err, IfSome, refl, sym, ap, ◌∙◌, subst, inl, option_map}
+use Rattle.std.proofs.Common.{◌≡◌, ℕ, ◌-◌, Bool, true, false, List, [], ◌∷◌, ◌++◌, length, Option, Some, None, Ok, Err, IfSome, refl, sym, ap, ◌∙◌, subst, inl, option_map}
 use Rattle.std.specs.Prelude.{◌==◌, ◌&&◌, bytes_eq, slice_get}
 use Rattle.std.specs.List.{list_all}
 use Rattle.std.specs.Option.{option_map_or}
@@ -10,6 +10,8 @@ use Rattle.std.proofs.lemmas.Slice.Eq.{bytes_eq-Decides}
 use Rattle.layout.specs.Format.{Answer}
 use Rattle.layout.specs.Types.{Bytes, Digest}
 use Rattle.lms_sign.specs.Signature.{signature_of}
+use Rattle.lms_sign.proofs.Validity.{length-signature}
+use Rattle.client_journal.specs.Records.{unsigned}
 use Rattle.update_cert.specs.Cert.{Cert, cert}
 use Rattle.update_cert.specs.CertLaws.{lawful_cert}
 use Rattle.update_cert.specs.Change.{Change}
@@ -23,9 +25,10 @@ use Rattle.agreement.specs.Runs.{View}
 use Rattle.agreement.proofs.Formed.{cert_fits}
 use Rattle.agreement.proofs.Members.{in-right}
 use Rattle.agreement.proofs.Tests.{first_holds}
+use Rattle.client_releases.proofs.Again.{unsigned_of}
 use Rattle.client_releases.specs.Told.{Released, secret_at}
 use Rattle.client_verify.specs.State.{IsOfDeclared, Ready, State, known, newest_key, next_cert, released}
-use Rattle.client_steps.specs.Steps.{Client, Closed, HasBegun, Open, Owner}
+use Rattle.client_steps.specs.Steps.{Client, Closed, HasBegun, HasResigned, Open, Owner}
 use Rattle.client_runs.specs.Released.{in_hand, view_over}
 use Rattle.client_runs.specs.Runs.{Event}
 use Rattle.client_runs.proofs.Replies.{IsGoodBy, of_lists}
@@ -94,6 +97,7 @@ module _ (o : Owner) (run : List Event) (view : Option View) where
 pub record IsCertOf (changes : List (Change Digest)) (text : Bytes) : Type 0 where
   pub value : Cert
   pub signature : Bytes
+  pub long : length signature ≡ 2508
   pub fits : cert.Fits value
   pub changes_are : value.changes ≡ changes
   pub spelled : text ≡ cert.spell value ++ signature
@@ -108,13 +112,33 @@ still_has (OfNumber number) s new same has = ap (λ (r : Released). r.number) sa
 still_has (OfChanges changes) s new same has = subst (λ (r : Released). IsCertOf changes r.text) (sym same) has
 
 pub begins : (s new : State) (changes : List (Change Digest)) (laid : List Bytes) (text : Bytes) → HasBegun s changes laid (Ok text) new → HasDeclared (OfChanges changes) new
-begins s new changes laid text b = record {
-  value = next_cert s changes;
-  signature = signature_of (secret_at (newest_key s) (released s)) b.declared.0 (cert.spell (next_cert s changes));
-  fits = b.fits;
-  changes_are = refl;
-  spelled = ap (λ (n : State). n.text) b.declared.2;
-}
+begins s new changes laid text b =
+    let secret = secret_at (newest_key s) (released s) in
+    let spelled = cert.spell (next_cert s changes) in
+    record {
+      value = next_cert s changes;
+      signature = signature_of secret b.declared.0 spelled;
+      long = length-signature secret spelled b.declared.0;
+      fits = b.fits;
+      changes_are = refl;
+      spelled = ap (λ (n : State). n.text) b.declared.2;
+    }
+
+-- the certificate that is signed again is the same one
+pub resigns : (begun : Operation) (s new : State) (k : ℕ) (text : Bytes) → HasResigned s k (Ok text) new → HasDeclared begun s → HasDeclared begun new
+resigns (OfNumber number) s new k text b has = ap (λ (n : State). n.number) b.resigned.2 ∙ has
+resigns (OfChanges changes) s new k text b has =
+    let secret = secret_at k (released s) in
+    let signature = signature_of secret b.resigned.0 (unsigned s.text) in
+    let same : unsigned s.text ≡ cert.spell has.value = ap unsigned has.spelled ∙ unsigned_of (cert.spell has.value) has.signature has.long in
+    record {
+      value = has.value;
+      signature = signature;
+      long = length-signature secret (unsigned s.text) b.resigned.0;
+      fits = has.fits;
+      changes_are = has.changes_are;
+      spelled = ap (λ (n : State). n.text) b.resigned.2 ∙ ap (λ (u : Bytes). u ++ signature) same;
+    }
 
 abbrev cert_or : Cert → Answer Cert → Cert
 cert_or other (Ok x) = x.0

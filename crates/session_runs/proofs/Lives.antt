@@ -8,7 +8,7 @@ use Rattle.client_runs.specs.Runs.{client_of, owner}
 use Rattle.client_runs.proofs.OfUsers.{steps_are_runs}
 use Rattle.file_session.specs.Calls.{Call, step_of}
 use Rattle.file_session.specs.Calls as session
-use Rattle.file_session.specs.Order.{Calls, LacksNumbers, LacksPlan, Move, Sends}
+use Rattle.file_session.specs.Order.{Calls, LacksLeaves, LacksNumbers, LacksPlan, Move, Sends}
 use Rattle.file_session.specs.Went.{Answering, At, Moves}
 use Rattle.session_runs.specs.Lives.{Carries, Deed, IsCut, IsLife, Leads, LivesAreRuns, Takes, steps_by, steps_in}
 
@@ -29,6 +29,7 @@ module _ {T : Type 0} (answers : Answering T) (o : Owner) where
       let is = call_steps a.client call mid.client one.0 in
       (is.0, is.1, moves_are_steps mid ms b more)
   moves_are_steps a (Sends r x ∷ ms) b (mid, one, more) = stays a mid (Open b.client) (steps_in answers mid ms b more) one.1 (moves_are_steps mid ms b more)
+  moves_are_steps a (LacksLeaves ∷ ms) b (mid, one, more) = stays a mid (Open b.client) (steps_in answers mid ms b more) one.0 (moves_are_steps mid ms b more)
   moves_are_steps a (LacksPlan ∷ ms) b (mid, one, more) = stays a mid (Open b.client) (steps_in answers mid ms b more) one.0 (moves_are_steps mid ms b more)
   moves_are_steps a (LacksNumbers ∷ ms) b (mid, one, more) = stays a mid (Open b.client) (steps_in answers mid ms b more) one.0 (moves_are_steps mid ms b more)
 

@@ -1,5 +1,6 @@
 -- While a session looks, its client looks for the answer to the session's question.
 use Rattle.std.proofs.Common.{◌≡◌, ◌<◌, ℕ, List, [], ◌∷◌, Option, Some, None, Result, Ok, Err, IfSome, IsSome, IsSomeAnd, refl, sym, ap, ◌∙◌, subst}
+use Rattle.std.specs.Option.{unwrap_or}
 use Rattle.layout.specs.Types.{Bytes, Digest}
 use Rattle.update_cert.specs.Change.{Change}
 use Rattle.client_tree.specs.declared.questions.Question.{Question}
@@ -17,11 +18,13 @@ use Rattle.transport.specs.Asked.{Asked}
 use Rattle.wire.specs.declared.kinds.Status.{Status}
 use Rattle.wire.specs.declared.kinds.Status.TheVariants as status
 use Rattle.file_session.specs.declared.stop.Stop.{Stop}
-use Rattle.file_session.specs.Calls.{Begins, Call, Commits, Gives, Hears, Looks, Signs, Takes, step_of}
+use Rattle.file_session.specs.declared.stop.Stop.TheVariants as stop
+use Rattle.file_session.specs.Calls.{Begins, Call, Commits, Gives, Hears, Looks, Resigns, Signs, Takes, step_of}
 use Rattle.file_session.specs.Calls as session
-use Rattle.file_session.specs.Order.{Calls, Commit, CommitNew, Fetch, FetchAt, Follows, GiveAt, Hear, LacksNumbers, LacksPlan, Move, Next, Over, Ready, Sends, Store, Take, Tell, Update}
+use Rattle.file_session.specs.Order.{Calls, Commit, CommitNew, Fetch, FetchAt, Follows, GiveAt, Hear, LacksLeaves, LacksNumbers, LacksPlan, Move, Next, Over, Ready, Resign, Sends, Store, Take, Tell, Update}
 use Rattle.file_session.specs.Order as order
 use Rattle.file_session.specs.Replies.{block_in, payload_in, status_in}
+use Rattle.file_session.specs.Tries.{keys_to_try}
 
 -- a look is under way for this question
 abbrev pub LooksFor : Question → State → Type 0
@@ -56,9 +59,18 @@ declaring : (x : Result Bytes ClientError) → IsNoLook (order.declaring x)
 declaring (Ok text) = tt
 declaring (Err e) = tt
 
-hearing : (x : Result Bytes Stop) → IsNoLook (order.hearing x)
-hearing (Ok text) = tt
-hearing (Err e) = tt
+trying : (keys : List ℕ) → IsNoLook (order.trying keys)
+trying [] = tt
+trying (n ∷ keys) = tt
+
+hearing : (keys : List ℕ) (x : Result Bytes Stop) → IsNoLook (order.hearing keys x)
+hearing keys (Ok text) = tt
+hearing keys (Err (stop.Declined status.BadSignature)) = trying keys
+hearing keys (Err other) = tt
+
+resigning : (keys : List ℕ) (x : Result Bytes ClientError) → IsNoLook (order.resigning keys x)
+resigning keys (Ok text) = tt
+resigning keys (Err e) = tt
 
 checking : (x : Result Asks ClientError) → IsNoLook (order.checking x)
 checking (Ok (step.Need digest)) = tt
@@ -98,9 +110,9 @@ resuming phase.Failed text s = tt
 
 -- ---- exchanges
 
-pub sent : (n : Next) (r : Asked) (x : Result Bytes TransportError) (m : Next) (s : State) → Follows n (Sends r x) m → IsLooking n s → IsLooking m s
+pub sent : (n : Next) (r : Asked) (x : Result Bytes TransportError) (m : Next) (s : State) → Follows s n (Sends r x) m → IsLooking n s → IsLooking m s
 sent (Ready laid) r x m s h is = at_next m _ s h.1 (no_look _ s (laying laid r.payload (payload_in x)))
-sent (Update text) r x m s h is = at_next m _ s h.1 (no_look _ s (hearing (payload_in x)))
+sent (Update text left) r x m s h is = at_next m _ s h.1 (no_look _ s (hearing (unwrap_or left (keys_to_try s)) (payload_in x)))
 sent (Fetch digest) r x m s h is = at_next m _ s h.1 (no_look _ s (taking (block_in x)))
 sent (Store (text ∷ texts)) r x m s h is = at_next m _ s h.1 (no_look _ s (storing texts (payload_in x)))
 sent (Store []) r x m s h is = absurd h
@@ -109,6 +121,7 @@ sent (Commit text) r x m s h is = at_next m _ s h.1 (no_look _ s (telling (statu
 sent (FetchAt q digest) r x m s h is = at_next m _ s h.1 (giving q s (block_in x) is)
 sent (Over e) r x m s h is = absurd h
 sent (Hear text) r x m s h is = absurd h
+sent (Resign k keys) r x m s h is = absurd h
 sent (Take block) r x m s h is = absurd h
 sent (Tell told) r x m s h is = absurd h
 sent (GiveAt q block) r x m s h is = absurd h
@@ -151,93 +164,112 @@ looking q (Ok (look.Kind kind)) new on = tt
 looking q (Ok (look.Free found)) new on = tt
 looking q (Err e) new on = tt
 
-pub begins_next : (n : Next) (changes : List (Change Digest)) (texts : List Bytes) (x : Result Bytes ClientError) (m : Next) → Follows n (Calls (Begins changes texts x)) m → m ≡ order.declaring x
-begins_next (Ready laid) changes texts x m h = h.1
-begins_next (Store []) changes texts x m h = absurd h
-begins_next (Store (t ∷ ts)) changes texts x m h = absurd h
-begins_next other changes texts x m h = absurd h
+pub begins_next : (s : State) (n : Next) (changes : List (Change Digest)) (texts : List Bytes) (x : Result Bytes ClientError) (m : Next) → Follows s n (Calls (Begins changes texts x)) m → m ≡ order.declaring x
+begins_next s (Ready laid) changes texts x m h = h.2
+begins_next s (Store []) changes texts x m h = absurd h
+begins_next s (Store (t ∷ ts)) changes texts x m h = absurd h
+begins_next s other changes texts x m h = absurd h
 
-pub hears_next : (n : Next) (text : Bytes) (x : Result Asks ClientError) (m : Next) → Follows n (Calls (Hears text x)) m → m ≡ order.checking x
-hears_next (Hear told) text x m h = h.1
-hears_next (Store []) text x m h = absurd h
-hears_next (Store (t ∷ ts)) text x m h = absurd h
-hears_next other text x m h = absurd h
+pub resigns_next : (s : State) (n : Next) (k : ℕ) (x : Result Bytes ClientError) (m : Next) → Follows s n (Calls (Resigns k x)) m → (keys : List ℕ) × (m ≡ order.resigning keys x)
+resigns_next s (Resign j keys) k x m h = (keys, h.1)
+resigns_next s (Store []) k x m h = absurd h
+resigns_next s (Store (t ∷ ts)) k x m h = absurd h
+resigns_next s other k x m h = absurd h
 
-pub takes_next : (n : Next) (block : Option Bytes) (x : Result Asks ClientError) (m : Next) → Follows n (Calls (Takes block x)) m → m ≡ order.checking x
-takes_next (Take told) block x m h = h.1
-takes_next (Store []) block x m h = absurd h
-takes_next (Store (t ∷ ts)) block x m h = absurd h
-takes_next other block x m h = absurd h
+pub hears_next : (s : State) (n : Next) (text : Bytes) (x : Result Asks ClientError) (m : Next) → Follows s n (Calls (Hears text x)) m → m ≡ order.checking x
+hears_next s (Hear told) text x m h = h.1
+hears_next s (Store []) text x m h = absurd h
+hears_next s (Store (t ∷ ts)) text x m h = absurd h
+hears_next s other text x m h = absurd h
 
-pub signs_next : (n : Next) (x : Result Bytes ClientError) (lost : List ℕ) (m : Next) → Follows n (Calls (Signs x lost)) m → m ≡ order.committing x lost
-signs_next (Store []) x lost m h = h
-signs_next (Store (text ∷ texts)) x lost m h = absurd h
-signs_next other x lost m h = absurd h
+pub takes_next : (s : State) (n : Next) (block : Option Bytes) (x : Result Asks ClientError) (m : Next) → Follows s n (Calls (Takes block x)) m → m ≡ order.checking x
+takes_next s (Take told) block x m h = h.1
+takes_next s (Store []) block x m h = absurd h
+takes_next s (Store (t ∷ ts)) block x m h = absurd h
+takes_next s other block x m h = absurd h
 
-pub commits_next : (n : Next) (st : Status) (m : Next) → Follows n (Calls (Commits st)) m → m ≡ order.committed st
-commits_next (Tell told) st m h = h.1 ∙ ap order.committed (sym h.0)
-commits_next (Store []) st m h = absurd h
-commits_next (Store (t ∷ ts)) st m h = absurd h
-commits_next other st m h = absurd h
+pub signs_next : (s : State) (n : Next) (x : Result Bytes ClientError) (lost : List ℕ) (m : Next) → Follows s n (Calls (Signs x lost)) m → m ≡ order.committing x lost
+signs_next s (Store []) x lost m h = h
+signs_next s (Store (text ∷ texts)) x lost m h = absurd h
+signs_next s other x lost m h = absurd h
 
-pub looks_next : (n : Next) (q : Question) (x : Result Sees ClientError) (m : Next) → Follows n (Calls (Looks q x)) m → m ≡ order.looking q x
-looks_next (Ready laid) q x m h = h.1
-looks_next (Store []) q x m h = absurd h
-looks_next (Store (t ∷ ts)) q x m h = absurd h
-looks_next other q x m h = absurd h
+pub commits_next : (s : State) (n : Next) (st : Status) (m : Next) → Follows s n (Calls (Commits st)) m → m ≡ order.committed st
+commits_next s (Tell told) st m h = h.1 ∙ ap order.committed (sym h.0)
+commits_next s (Store []) st m h = absurd h
+commits_next s (Store (t ∷ ts)) st m h = absurd h
+commits_next s other st m h = absurd h
+
+pub looks_next : (s : State) (n : Next) (q : Question) (x : Result Sees ClientError) (m : Next) → Follows s n (Calls (Looks q x)) m → m ≡ order.looking q x
+looks_next s (Ready laid) q x m h = h.1
+looks_next s (Store []) q x m h = absurd h
+looks_next s (Store (t ∷ ts)) q x m h = absurd h
+looks_next s other q x m h = absurd h
 
 -- the question of a block that is handed in is the one of the look
-pub asked_for : (n : Next) (q : Question) (block : Option Bytes) (x : Result Sees ClientError) (m : Next) (s : State) → Follows n (Calls (Gives q block x)) m → IsLooking n s → LooksFor q s
+pub asked_for : (n : Next) (q : Question) (block : Option Bytes) (x : Result Sees ClientError) (m : Next) (s : State) → Follows s n (Calls (Gives q block x)) m → IsLooking n s → LooksFor q s
 asked_for (GiveAt p told) q block x m s h is = subst (λ (r : Question). LooksFor r s) (sym h.0) is
 asked_for (Store []) q block x m s h is = absurd h
 asked_for (Store (t ∷ ts)) q block x m s h is = absurd h
 asked_for other q block x m s h is = absurd h
 
-pub gives_next : (n : Next) (q : Question) (block : Option Bytes) (x : Result Sees ClientError) (m : Next) → Follows n (Calls (Gives q block x)) m → m ≡ order.looking q x
-gives_next (GiveAt p told) q block x m h = h.2 ∙ ap (λ (r : Question). order.looking r x) (sym h.0)
-gives_next (Store []) q block x m h = absurd h
-gives_next (Store (t ∷ ts)) q block x m h = absurd h
-gives_next other q block x m h = absurd h
+pub gives_next : (s : State) (n : Next) (q : Question) (block : Option Bytes) (x : Result Sees ClientError) (m : Next) → Follows s n (Calls (Gives q block x)) m → m ≡ order.looking q x
+gives_next s (GiveAt p told) q block x m h = h.2 ∙ ap (λ (r : Question). order.looking r x) (sym h.0)
+gives_next s (Store []) q block x m h = absurd h
+gives_next s (Store (t ∷ ts)) q block x m h = absurd h
+gives_next s other q block x m h = absurd h
 
 -- ---- after a call
 
-pub after_call : (n m : Next) (call : Call) (s new : State) → session.Leads s call new → Follows n (Calls call) m → IsLooking n s → IsLooking m new
+pub after_call : (n m : Next) (call : Call) (s new : State) → session.Leads s call new → Follows s n (Calls call) m → IsLooking n s → IsLooking m new
 unfolding session.Leads
-after_call n m (Begins changes texts x) s new leads h is = at_next m _ new (begins_next n changes texts x m h) (no_look _ new (declaring x))
-after_call n m (Hears text x) s new leads h is = at_next m _ new (hears_next n text x m h) (no_look _ new (checking x))
-after_call n m (Takes block x) s new leads h is = at_next m _ new (takes_next n block x m h) (no_look _ new (checking x))
-after_call n m (Signs x lost) s new leads h is = at_next m _ new (signs_next n x lost m h) (no_look _ new (committing x lost))
-after_call n m (Commits st) s new leads h is = at_next m _ new (commits_next n st m h) (no_look _ new (committed st))
+after_call n m (Begins changes texts x) s new leads h is = at_next m _ new (begins_next s n changes texts x m h) (no_look _ new (declaring x))
+after_call n m (Resigns k x) s new leads h is = let to = resigns_next s n k x m h in at_next m _ new to.1 (no_look _ new (resigning to.0 x))
+after_call n m (Hears text x) s new leads h is = at_next m _ new (hears_next s n text x m h) (no_look _ new (checking x))
+after_call n m (Takes block x) s new leads h is = at_next m _ new (takes_next s n block x m h) (no_look _ new (checking x))
+after_call n m (Signs x lost) s new leads h is = at_next m _ new (signs_next s n x lost m h) (no_look _ new (committing x lost))
+after_call n m (Commits st) s new leads h is = at_next m _ new (commits_next s n st m h) (no_look _ new (committed st))
 after_call n m (Looks q x) s new leads h is =
-    at_next m _ new (looks_next n q x m h)
+    at_next m _ new (looks_next s n q x m h)
     (looking q x new (λ digest same. looks_on q s digest new (subst (λ (a : Result Sees ClientError). HasLooked s q a new) same leads.0)))
 after_call n m (Gives q block x) s new leads h is =
     let was = asked_for n q block x m s h is in
-    at_next m _ new (gives_next n q block x m h)
+    at_next m _ new (gives_next s n q block x m h)
     (looking q x new (λ digest same. gives_on q s block digest new was (subst (λ (a : Result Sees ClientError). HasGiven s block a new) same leads.0)))
 
--- ---- where memory is refused
+-- ---- where leaves are lacking, or memory is refused
 
-no_plan : (n m : Next) → Follows n LacksPlan m → IsNoLook m
-no_plan (Ready []) m h = subst IsNoLook (sym h) tt
-no_plan (Ready (t ∷ ts)) m h = absurd h
-no_plan (Store []) m h = absurd h
-no_plan (Store (t ∷ ts)) m h = absurd h
-no_plan (CommitNew text []) m h = absurd h
-no_plan (CommitNew text (k ∷ lost)) m h = absurd h
-no_plan other m h = absurd h
+no_leaves : (s : State) (n m : Next) → Follows s n LacksLeaves m → IsNoLook m
+no_leaves s (Ready []) m h = subst IsNoLook (sym h.1) tt
+no_leaves s (Ready (t ∷ ts)) m h = absurd h
+no_leaves s (Store []) m h = absurd h
+no_leaves s (Store (t ∷ ts)) m h = absurd h
+no_leaves s (CommitNew text []) m h = absurd h
+no_leaves s (CommitNew text (k ∷ lost)) m h = absurd h
+no_leaves s other m h = absurd h
 
-no_numbers : (n m : Next) → Follows n LacksNumbers m → IsNoLook m
-no_numbers (CommitNew text (k ∷ lost)) m h = subst IsNoLook (sym h) tt
-no_numbers (CommitNew text []) m h = absurd h
-no_numbers (Ready []) m h = absurd h
-no_numbers (Ready (t ∷ ts)) m h = absurd h
-no_numbers (Store []) m h = absurd h
-no_numbers (Store (t ∷ ts)) m h = absurd h
-no_numbers other m h = absurd h
+no_plan : (s : State) (n m : Next) → Follows s n LacksPlan m → IsNoLook m
+no_plan s (Ready []) m h = subst IsNoLook (sym h) tt
+no_plan s (Ready (t ∷ ts)) m h = absurd h
+no_plan s (Store []) m h = absurd h
+no_plan s (Store (t ∷ ts)) m h = absurd h
+no_plan s (CommitNew text []) m h = absurd h
+no_plan s (CommitNew text (k ∷ lost)) m h = absurd h
+no_plan s other m h = absurd h
 
-pub lacks_plan : (n m : Next) (s : State) → Follows n LacksPlan m → IsLooking m s
-lacks_plan n m s h = no_look m s (no_plan n m h)
+no_numbers : (s : State) (n m : Next) → Follows s n LacksNumbers m → IsNoLook m
+no_numbers s (CommitNew text (k ∷ lost)) m h = subst IsNoLook (sym h) tt
+no_numbers s (CommitNew text []) m h = absurd h
+no_numbers s (Ready []) m h = absurd h
+no_numbers s (Ready (t ∷ ts)) m h = absurd h
+no_numbers s (Store []) m h = absurd h
+no_numbers s (Store (t ∷ ts)) m h = absurd h
+no_numbers s other m h = absurd h
 
-pub lacks_numbers : (n m : Next) (s : State) → Follows n LacksNumbers m → IsLooking m s
-lacks_numbers n m s h = no_look m s (no_numbers n m h)
+pub lacks_leaves : (n m : Next) (s : State) → Follows s n LacksLeaves m → IsLooking m s
+lacks_leaves n m s h = no_look m s (no_leaves s n m h)
+
+pub lacks_plan : (n m : Next) (s : State) → Follows s n LacksPlan m → IsLooking m s
+lacks_plan n m s h = no_look m s (no_plan s n m h)
+
+pub lacks_numbers : (n m : Next) (s : State) → Follows s n LacksNumbers m → IsLooking m s
+lacks_numbers n m s h = no_look m s (no_numbers s n m h)

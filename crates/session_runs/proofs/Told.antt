@@ -18,16 +18,16 @@ use Rattle.client_runs.specs.Released.{in_hand, view_over}
 use Rattle.client_steps.specs.Steps.{Client, HasSigned, Open, Sees, StepTaken, principal_of}
 use Rattle.client_steps.specs.Steps as steps
 use Rattle.fork_consistency.specs.Shown.{IsOfWorld, IsTrueInWorld, IsTrueOf, answered}
-use Rattle.file_session.specs.Calls.{Begins, Call, Commits, Gives, Hears, Looks, Signs, Takes, lost_in, step_of}
+use Rattle.file_session.specs.Calls.{Begins, Call, Commits, Gives, Hears, Looks, Resigns, Signs, Takes, lost_in, step_of}
 use Rattle.file_session.specs.Calls as session
-use Rattle.file_session.specs.Order.{Calls, Follows, LacksNumbers, LacksPlan, Move, Next, Sends}
+use Rattle.file_session.specs.Order.{Calls, Follows, LacksLeaves, LacksNumbers, LacksPlan, Move, Next, Sends}
 use Rattle.file_session.specs.Went.{Answering, At, Event, IsSeenIn, Moves, Signed, events, looks, seen_by as seen_in_call}
 use Rattle.session_runs.specs.Told.{AreTold, IsOwn, IsOwnOperation, IsTextOf, OfChanges, Operation, seen_by, signed_by, signed_texts}
 use Rattle.session_runs.specs.Lives.{steps_in}
 use Rattle.session_runs.proofs.Along.{Along, Step}
-use Rattle.session_runs.proofs.Begun.{IsUnderWay, after_call as after_begun, begun_after, lacks_numbers as way_lacks_numbers, lacks_plan as way_lacks_plan, sent as way_sent, signs_it, stays as way_stays}
+use Rattle.session_runs.proofs.Begun.{IsUnderWay, after_call as after_begun, begun_after, lacks_leaves as way_lacks_leaves, lacks_numbers as way_lacks_numbers, lacks_plan as way_lacks_plan, sent as way_sent, signs_it, stays as way_stays}
 use Rattle.session_runs.proofs.Declared.{IsOwnText, of_begun}
-use Rattle.session_runs.proofs.Looking.{IsLooking, LooksFor, after_call, asked_for, lacks_numbers, lacks_plan, sent}
+use Rattle.session_runs.proofs.Looking.{IsLooking, LooksFor, after_call, asked_for, lacks_leaves, lacks_numbers, lacks_plan, sent}
 
 -- ---- an answer
 
@@ -147,10 +147,11 @@ module _ (reads : Reading) (key : Key) (accepted : List View) (u : User) (texts 
   told_as : (last mid : Option View) (begun : Operation) (es : List Event) → mid ≡ last → Told mid begun es → Told last begun es
   told_as last mid begun es same told = subst (λ (l : Option View). Told l begun es) same told
 
-  call_told : (n m : Next) (s new : State) (call : Call) (last mid : Option View) (begun : Operation) (ms : List Move) → session.Leads s call new → Follows n (Calls call) m → IsLooking n s → IsUnderWay n begun s
+  call_told : (n m : Next) (s new : State) (call : Call) (last mid : Option View) (begun : Operation) (ms : List Move) → session.Leads s call new → Follows s n (Calls call) m → IsLooking n s → IsUnderWay n begun s
       → OwnStep last (Open s) (record { call = step_of call; after = Open new }) mid → ((t : Bytes) → In t (signed_by (Calls call)) → In t texts) → Told mid (begun_after call begun) (events ms) → Told last begun (events (Calls call ∷ ms))
   unfolding session.Leads
   call_told n m s new (Begins changes texts x) last mid begun ms leads follows looking way step inside told = told_as last mid (OfChanges changes) (events ms) (step.same tt) told
+  call_told n m s new (Resigns k x) last mid begun ms leads follows looking way step inside told = told_as last mid begun (events ms) (step.same tt) told
   call_told n m s new (Hears text x) last mid begun ms leads follows looking way step inside told = told_as last mid begun (events ms) (step.same tt) told
   call_told n m s new (Takes block x) last mid begun ms leads follows looking way step inside told = told_as last mid begun (events ms) (step.same tt) told
   call_told n m s new (Commits st) last mid begun ms leads follows looking way step inside told = told_as last mid begun (events ms) (step.same tt) told
@@ -194,6 +195,9 @@ module _ (reads : Reading) (key : Key) (accepted : List View) (u : User) (texts 
     moves_told a (Sends r x ∷ ms) b (mid, one, more) last next begun after along looking way inside =
         moves_told mid ms b more last next begun after (exchanged a mid last next (steps_in answers mid ms b more) after one.1 along)
         (looks_still a mid mid.next one.1 (sent a.next r x mid.next a.client one.2 looking)) (way_stays mid.next begun a.client mid.client one.1 (way_sent begun a.client a.next r x mid.next one.2 way)) inside
+    moves_told a (LacksLeaves ∷ ms) b (mid, one, more) last next begun after along looking way inside =
+        moves_told mid ms b more last next begun after (exchanged a mid last next (steps_in answers mid ms b more) after one.0 along)
+        (looks_still a mid mid.next one.0 (lacks_leaves a.next mid.next a.client one.2)) (way_stays mid.next begun a.client mid.client one.0 (way_lacks_leaves begun a.client a.next mid.next one.2)) inside
     moves_told a (LacksPlan ∷ ms) b (mid, one, more) last next begun after along looking way inside =
         moves_told mid ms b more last next begun after (exchanged a mid last next (steps_in answers mid ms b more) after one.0 along)
         (looks_still a mid mid.next one.0 (lacks_plan a.next mid.next a.client one.2)) (way_stays mid.next begun a.client mid.client one.0 (way_lacks_plan begun a.client a.next mid.next one.2)) inside

@@ -9,7 +9,7 @@ use Rattle.client_releases.specs.declared.error.ClientError.{ClientError}
 use Rattle.client_releases.specs.declared.error.ClientError.TheVariants as error
 use Rattle.client_releases.specs.Releasing.{IsKept, structure_record, under}
 use Rattle.client_verify.specs.State.{State, on, over, released, signed_over, signed_text, signing_key}
-use Rattle.client_steps.specs.Steps.{AreSteps, Begins, Caches, Call, Client, Closed, Closes, Commits, Crashes, FromOpen, Gives, HasCommitted, HasSigned, Hears, IsStep, Looks, Open, Opens, Owner, Signs, StepTaken, Takes}
+use Rattle.client_steps.specs.Steps.{AreSteps, Begins, Caches, Call, Client, Closed, Closes, Commits, Crashes, FromOpen, Gains, Gives, HasCommitted, HasSigned, Hears, IsStep, Looks, Open, Opens, Owner, Resigns, Signs, StepTaken, Takes}
 use Rattle.client_runs.proofs.Lowering.{if_ready, with_ready}
 use Rattle.client_runs.proofs.Quiet as quiet
 
@@ -48,8 +48,11 @@ module _ (s new : State) where
   called : (call : Call) → FromOpen s call (Open new) → new.user ≡ s.user
   called (Opens answer) b = absurd b
   called Closes b = absurd b
+  called Gains b = absurd b
   called (Begins changes laid (Ok text)) b = ap (λ (n : State). n.user) b.declared.2
   called (Begins changes laid (Err e)) b = unless_device e (λ is. ap (λ (n : State). n.user) (b.fails (told_error e error.Device is))) b.err
+  called (Resigns n (Ok text)) b = ap (λ (n : State). n.user) b.resigned.2
+  called (Resigns n (Err e)) b = unless_device e (λ is. ap (λ (n : State). n.user) (b.fails (told_error e error.Device is))) b.err
   called (Hears text answer) b = quietly (quiet.hears s text answer new b)
   called (Takes block answer) b = quietly (quiet.takes s block answer new b)
   called (Signs answer) b = signs answer b

@@ -7,7 +7,7 @@ use Rattle.agreement.specs.Runs.{View}
 use Rattle.agreement.proofs.Members.{In, to_all}
 use Rattle.client_steps.specs.Steps.{Client, Open, Owner, StepTaken, first}
 use Rattle.client_runs.specs.Released.{views}
-use Rattle.client_runs.specs.Runs.{IsRun, client_of, owner, public_key}
+use Rattle.client_runs.specs.Runs.{IsRun, client_of, owner, pinned}
 use Rattle.fork_consistency.specs.Shown.{IsOfWorld, IsTrueInWorld, last_view}
 use Rattle.fork_consistency.proofs.Consistent.{consistent}
 use Rattle.file_session.specs.Went.{Answering}
@@ -52,7 +52,7 @@ pub sessions_tell_worlds : {T : Type 0} (answers : Answering T) → SessionsTell
 sessions_tell_worlds answers keys lives run are is_key premises reads agrees u =
     let is : IsRun keys run = lives_are_runs answers keys lives run are in
     let told = (consistent keys run is is_key premises).lines.shown reads agrees in
-    let key = public_key keys 0 in
+    let key = pinned keys in
     let whole = along_run (IsTrueInWorld reads key (views run)) (IsOfWorld reads key (views run)) (views run) u keys run is told (λ x i. i) in
     to_all (IsTold answers reads key (views run) u) (lives u)
     (life_told answers reads key (views run) u (owner keys u) refl first (lives u) (client_of u run) None (last_view u run) (client_of u run) (are.lived u) tt

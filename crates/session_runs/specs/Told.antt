@@ -22,8 +22,8 @@ use Rattle.file_session.specs.Calls.{Signs}
 use Rattle.file_session.specs.Declaring.{all_declared}
 use Rattle.file_session.specs.Order.{Calls, Move}
 use Rattle.file_session.specs.Sessions.{Resumed}
-use Rattle.file_session.specs.Went.{Answering, Begun, Event as Tale, IsSeenIn, Saw, Signed as Numbers, Unplanned}
-use Rattle.file_session.specs.Went.{events}
+use Rattle.file_session.specs.Went.{Answering, Begun, Event as Tale, IsSeenIn, Saw, Signed as Numbers, Unbegun}
+use Rattle.file_session.specs.Went.{Unplanned, events}
 use Rattle.session_runs.specs.Lives.{AreLives, Carried, Carries, Deed, IsCut, Takes}
 
 -- the structures that a session signs, as it sends them
@@ -71,6 +71,7 @@ abbrev pub AreTold : Reading → Key → List View → User → List Bytes → O
 AreTold reads key accepted u texts last begun [] = Unit {0}
 AreTold reads key accepted u texts last begun (Begun changes laid ∷ es) =
     AreTold reads key accepted u texts last (OfChanges changes) es
+AreTold reads key accepted u texts last begun (Unbegun ∷ es) = AreTold reads key accepted u texts last begun es
 AreTold reads key accepted u texts last begun (Unplanned ∷ es) = AreTold reads key accepted u texts last begun es
 AreTold reads key accepted u texts last begun (Saw s ∷ es) =
     IsSomeAnd last (λ x. IsSeenIn (seen_by reads key accepted x) s.question s.answer)
