@@ -201,7 +201,7 @@ pub(crate) enum RenewalFault {
     KeysFull,
     /// An operation is declared and not yet signed.
     UnderWay,
-    /// An operation is declared and can't be signed any more.
+    /// An operation is declared, and the newest key has no leaf to sign it.
     Spent,
     /// The newest key has signed no operation that was placed.
     Unlisted,
@@ -217,10 +217,10 @@ impl RenewalFault {
                 "user 0 has one key for good, the one that all others were told",
             RenewalFault::KeysFull => "the folder has 16 keys, the most that a user may have",
             RenewalFault::UnderWay => {
-                "an operation is begun under the newest key, and can't go on under another: any command that asks the server finishes it first"
+                "an operation is begun, and nothing tells until it is finished whether user 0 has set the newest key: any command that asks the server finishes it first"
             }
             RenewalFault::Spent => {
-                "an operation is begun under the newest key, which has no leaf left to sign it, and no other key can: who goes on needs a new folder, added as a new user"
+                "an operation is begun, and the newest key has no leaf left to finish it: where a command that asks the server is answered no leaf, who goes on needs a new folder, added as a new user"
             }
             RenewalFault::Unlisted => {
                 "the newest key hasn't signed an operation yet: user 0 has to type it (the last line of key), and then a command that asks the server has to be done"

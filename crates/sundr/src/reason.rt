@@ -219,7 +219,7 @@ fn reason_of_folder<'a>(folder: &'a str, refusal: Refusal) -> Reason<'a> {
         },
         Refusal::NoLeaf => Reason::Of {
             name: folder,
-            words: "its newest key has signed all that it can, 1024 texts, two an operation: renew makes another key, but for user 0",
+            words: "its newest key hasn't two leaves left, which an operation takes: renew makes another key, but for user 0",
         },
         Refusal::NoKey => Reason::Of {
             name: folder,

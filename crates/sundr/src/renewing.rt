@@ -27,7 +27,7 @@ const MANY: usize = LEAVES / 2;
 
 /// What is told beside a new key.
 const NEXT: &str =
-    "renew: user 0 has to type that line now; until then the commands of this folder are answered declined 3, and the first one after it finishes what they began";
+    "renew: user 0 has to type that line soon; until then commands go on with the key before, and each operation takes a leaf of the new one, too";
 
 /// A key that was made: whose it is, and its public key.
 #[derive(Clone, Copy)]
