@@ -13,7 +13,7 @@ use Rattle.client_releases.specs.Told.{cert_in, structure_in}
 use Rattle.release_runs.specs.Steps.{Call, Client, Closed, Closes, Commits, Crashes, Declares, Gains, IsLeft, IsSound, IsStep, Open, Opens, Owner, Parts, Resigns, Signs, first, journal_of, ledgers_of, secret_of}
 use Rattle.release_runs.specs.Runs.{AreInTurn, Event, IsInTurn, IsRun, client_of}
 use Rattle.release_runs.specs.Released.{leaf_in, released, released_by}
-use Rattle.release_runs.specs.UsedOnce.{CertificatesOnce, EachRun, LeavesOnce, StructuresOnce}
+use Rattle.release_runs.specs.UsedOnce.{CertificatesOnce, EachIdentifierOnce, EachRun, LeavesOnce, StructuresOnce}
 use Rattle.release_runs.proofs.Files.{Lies, file_at, gained_sure, lies_left, lies_on, only_this, still_sure}
 use Rattle.release_runs.proofs.Holds.{Holds, closes, commits, numbered_older}
 use Rattle.release_runs.proofs.Members.{In, contains_in}
@@ -142,6 +142,15 @@ module _ (o : Owner) (run : List Event) (is : IsRun o run) where
 
 pub leaves_once : EachRun LeavesOnce
 leaves_once o run is = record { key_of = key_by o (some o run is).story; own = each_own o run is; signed = each_signed o run is; once = one_text o run is }
+
+-- and of keys with one identifier each leaf, where these are one key
+pub identifiers_once : EachIdentifierOnce
+identifiers_once o run is apart =
+    let leaves = leaves_once o run is in
+    record {
+      leaves = leaves;
+      once = λ a b has_a has_b same. leaves.once a b has_a has_b (apart (leaves.key_of a) (leaves.key_of b) (leaves.own a has_a) (leaves.own b has_b) same);
+    }
 
 pub certificates_once : EachRun CertificatesOnce
 certificates_once o run is turn a b c d has_a has_b in_a in_b same_number =
