@@ -13,7 +13,7 @@ use Rattle.client_runs.specs.Slots.{AreFirst, IsOf, client_in, parts_in}
 -- ---- the keys of scripts
 
 -- those of user 0, and of another user
-abbrev keys_where : User → Bool → List Secret
+abbrev pub keys_where : User → Bool → List Secret
 keys_where u super = if super then script_key u 0 ∷ [] else script_key u 0 ∷ script_key u 1 ∷ script_key u 2 ∷ script_key u 3 ∷ []
 
 -- how many there are

@@ -8,6 +8,7 @@ pub mod Same
 pub mod OneMore
 pub mod NotTaken
 pub mod Gaining
+pub mod ScriptKeys
 pub mod Places
 pub mod Telling
 pub mod Taking

@@ -19,8 +19,7 @@ abbrev pub EachClient : (Keys → User → List Event → Type 0) → Type 0
 EachClient holds = (keys : Keys) (run : List Event) (u : User) → IsRun keys run → holds keys u run
 
 -- Each released text is signed by one of the user's keys, by the leaf that it carries; and texts of one key that carry
--- one leaf number are one text. Keys are told apart by their place alone: that no two are made of the same is their
--- user's affair.
+-- one leaf number are one text. Keys are told apart by their place.
 pub record LeavesOnce (keys : Keys) (u : User) (run : List Event) : Type 0 where
   pub key_of : Bytes → ℕ
   pub own : (a : Bytes) → Contains (released u run) a → key_of a < length (keys u)
