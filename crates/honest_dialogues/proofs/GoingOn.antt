@@ -31,7 +31,7 @@ use Rattle.honest_history.proofs.Members.{bytes_true, find_none}
 use Rattle.honest_history.proofs.Reached.{Reached, reach, reached}
 use Rattle.honest_dialogues.specs.Dialogue.{Accepts, Act, Commits, Declared, Declares, Declined, Ends, Hears, HearsDeclined, Idle, IsDialogue, IsNaming, IsNextCert, IsReply, MayMove, Move, Resigns, Sealed, Stage, Updates, calls, commit_by, stage_of, update_by, views}
 use Rattle.honest_dialogues.specs.OneLine.{IsGoodUpdate}
-use Rattle.honest_dialogues.specs.GoingOn.{EachOperationGoesThrough, EachResignedGoesThrough, GoesThrough, accepts, commits, declares, events_of, hears, hears_declined, resigns, signed_again, table_of, updates}
+use Rattle.honest_dialogues.specs.GoingOn.{EachDeclaredGoesThrough, EachOperationGoesThrough, EachResignedGoesThrough, GoesThrough, accepts, commits, declares, events_of, hears, hears_declined, resigns, signed_again, table_of, updates}
 use Rattle.honest_dialogues.proofs.Calls.{good_commit, good_update}
 use Rattle.honest_dialogues.proofs.Declined.{declined_leaves}
 use Rattle.honest_dialogues.proofs.Dialogues.{in_step}
@@ -191,3 +191,6 @@ each_goes_through pinned naming moves is d u last c at next listed own room = ne
 
 pub each_again_goes_through : EachResignedGoesThrough
 each_again_goes_through pinned naming moves is d u last c e at next again same listed other own room = again_goes_through pinned naming is moves d u last c at next listed other e again same own room
+
+pub each_declared_goes_through : EachDeclaredGoesThrough
+each_declared_goes_through pinned naming moves is d u last c at listed own room = goes_through pinned naming is moves d u last c at listed own room

@@ -87,3 +87,14 @@ EachResignedGoesThrough =
     → is_under_last_key (table_of pinned moves) c ≡ false → is_under_last_key (table_of pinned moves) d ≡ true
     → at_limit (state_after pinned (events_of pinned moves)) c.value ≡ false
     → GoesThrough pinned naming (signed_again u last c d moves) u last d
+
+-- So does each that is declared, for the first time or again, whatever was done since, where its user is listed, it is
+-- signed under the user's last key, and it is at the limit of no version.
+abbrev pub EachDeclaredGoesThrough : Type 0
+EachDeclaredGoesThrough =
+    (pinned : Key) (naming : Naming) (moves : List Move) → IsNaming pinned naming → IsDialogue pinned naming moves
+    → (u : User) (last : Option (Signed Structure)) (c : Signed Cert)
+    → stage_of u moves ≡ Declared last c None
+    → lists_user (table_of pinned moves) c.value.user ≡ true → is_under_last_key (table_of pinned moves) c ≡ true
+    → at_limit (state_after pinned (events_of pinned moves)) c.value ≡ false
+    → GoesThrough pinned naming moves u last c

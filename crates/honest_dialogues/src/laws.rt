@@ -1,6 +1,7 @@
 //! Laws of dialogues, for the proofs of callers: functions that do nothing.
 
-ghost use Rattle.honest_dialogues.specs.GoingOn.{EachOperationGoesThrough, EachResignedGoesThrough};
+ghost use Rattle.honest_dialogues.specs.GoingOn.{EachDeclaredGoesThrough, EachOperationGoesThrough};
+ghost use Rattle.honest_dialogues.specs.GoingOn.{EachResignedGoesThrough};
 ghost use Rattle.honest_dialogues.specs.OneLine.{EachDialogueIsOneLine};
 ghost use Rattle.honest_dialogues.specs.Reading.{EachReadTableIsNamed};
 ghost use Rattle.honest_dialogues.specs.Signing.{EachSignsOver};
@@ -22,6 +23,8 @@ pub fn operations_go_through()
     ensures next { EachOperationGoesThrough }
     // Where it was signed under another key, it is declined, and goes through once it is signed again under the last.
     ensures again { EachResignedGoesThrough }
+    // So does any that is declared, signed under that key, whatever was done since.
+    ensures declared { EachDeclaredGoesThrough }
 {}
 
 /// The structure that a client signs next over an accepted reply has the records of groups that an honest client gives
