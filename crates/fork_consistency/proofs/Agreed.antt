@@ -20,8 +20,8 @@ use Rattle.release_runs.specs.Steps as low
 use Rattle.release_runs.proofs.Stories.{IsStory, OfCert, OfStructure, Release, last_in}
 use Rattle.client_runs.specs.Runs.{Event, IsOwnKey, IsRun, Keys, client_of, owner, pinned as pinned_key}
 use Rattle.client_runs.specs.Released.{accepted_by, hashed, hashed_at, pending_texts, reply_texts, shown_cert, shown_structure, structure_texts, tried_view, views}
-use Rattle.fork_consistency.specs.Premises.{AreReleased, HasReleased, PinnedIsKey, Premises, everybody}
-use Rattle.fork_consistency.proofs.Genuine.{AllGenuine, all_genuine, genuine, released_later, released_structure, pinned_own}
+use Rattle.fork_consistency.specs.Premises.{AreReleased, HasReleased, PinnedIsKey, everybody}
+use Rattle.fork_consistency.proofs.Genuine.{AllGenuine, IsGenuineRun, genuine, pinned_own, released_later, released_structure}
 use Rattle.fork_consistency.proofs.Holds.{IsTriedOver, known_in, signed_in}
 use Rattle.fork_consistency.proofs.Judging.{cert_by_super, cert_verified, own_last_is, structure_by_super, structure_fits, structure_verified, unbroken, unbroken_by, value_of, verified}
 use Rattle.client_runs.proofs.Lowering.{low_owner}
@@ -166,9 +166,9 @@ module _ (keys : Keys) where
 
 -- ---- the laws
 
-module _ (keys : Keys) (run : List Event) (is : IsRun keys run) (is_key : PinnedIsKey keys) (premises : Premises keys run) where
+module _ (keys : Keys) (run : List Event) (is : IsRun keys run) (is_key : PinnedIsKey keys) (premises : IsGenuineRun keys run) where
   all_released_texts : AllGenuine keys run
-  all_released_texts = all_genuine keys run is premises.no_forgery
+  all_released_texts = premises.genuine
 
   all_true : (x : View) → In x (views run) → IsTrueTable keys x
   all_true x i u v k at = own_key_at everybody keys run is (super_honest keys run is_key premises) premises.added x i u v k tt at

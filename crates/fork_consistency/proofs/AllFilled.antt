@@ -26,7 +26,7 @@ use Rattle.agreement.proofs.Members.{In, contains_in, in-left, in-map, in-right,
 use Rattle.client_runs.specs.Released.{Shown, shown_cert, shown_in, shown_structure, views}
 use Rattle.client_runs.specs.Runs.{Event, IsRun, Keys, pinned}
 use Rattle.client_runs.proofs.Replies.{of_lists}
-use Rattle.fork_consistency.specs.Premises.{HasReleased, PinnedIsKey, Premises}
+use Rattle.fork_consistency.specs.Premises.{HasReleased, PinnedIsKey}
 use Rattle.fork_consistency.proofs.Agreed.{are_accepted, item_released}
 use Rattle.fork_consistency.proofs.AllWhole.{EachHandle, IsPlain, all_whole, low_all, names_by, part_by}
 use Rattle.fork_consistency.proofs.Backed.{IsBacked}
@@ -34,7 +34,7 @@ use Rattle.fork_consistency.proofs.Begun.{AmongThem, IsBegun, begun_by_blocks}
 use Rattle.fork_consistency.proofs.ByCertificates.{super_honest, view}
 use Rattle.fork_consistency.proofs.Certificates.{text_of}
 use Rattle.fork_consistency.proofs.Filled.{first_filled, part_filled}
-use Rattle.fork_consistency.proofs.Genuine.{released_structure}
+use Rattle.fork_consistency.proofs.Genuine.{IsGenuineRun, released_structure}
 use Rattle.fork_consistency.proofs.Judging.{structure_fits}
 use Rattle.fork_consistency.proofs.LaidOut.{begun_content}
 use Rattle.fork_consistency.proofs.Origins.{AreBlocks, IsKnown, IsMade, views_known}
@@ -103,7 +103,7 @@ module _ (texts : List Bytes) (apart : NoneCollide texts texts) (key : Key) (fir
 
 -- ---- over a run
 
-module _ (keys : Keys) (run : List Event) (is : IsRun keys run) (is_key : PinnedIsKey keys) (premises : Premises keys run) (texts : List Bytes) (apart : NoneCollide texts texts) (first : (t : Bytes) → In t (first_texts (pinned keys)) → In t texts) (inside : AreBlocks keys texts apart first run) where
+module _ (keys : Keys) (run : List Event) (is : IsRun keys run) (is_key : PinnedIsKey keys) (premises : IsGenuineRun keys run) (texts : List Bytes) (apart : NoneCollide texts texts) (first : (t : Bytes) → In t (first_texts (pinned keys)) → In t texts) (inside : AreBlocks keys texts apart first run) where
   abbrev pinned_key : Key
   pinned_key = pinned keys
 

@@ -1,6 +1,7 @@
 -- Where no signature is forged, what is shown with a valid signature was released.
 use Rattle.std.proofs.Common.{◌≡◌, ℕ, Bool, true, false, ◌==◌, List, [], ◌∷◌, ◌++◌, length, get_or, map, refl, sym, ap, ◌∙◌, subst, inl, inr, if◌then◌else◌, arith}
 use Rattle.std.specs.List.{All, Contains}
+use Rattle.std.proofs.lemmas.List.Elements.{All-weaker}
 use Rattle.layout.specs.Types.{Bytes, Key, User}
 use Rattle.lms_sign.specs.Signature.{signature_of, valid}
 use Rattle.lms_sign.proofs.Validity.{length-signature}
@@ -19,8 +20,9 @@ use Rattle.release_runs.proofs.Texts.{no_cert}
 use Rattle.client_runs.specs.Runs.{Event, IsOwnKey, IsRun, Keys, owner, pinned, public_keys}
 use Rattle.client_runs.specs.Released.{Shown, released, released_by, shown_by}
 use Rattle.client_runs.proofs.Replies.{shown}
-use Rattle.fork_consistency.specs.Premises.{HasReleased, IsGenuine, NoForgery, NoneForgedOf, PinnedIsKey, everybody}
+use Rattle.fork_consistency.specs.Premises.{AddsOwnKeys, AreKeys, EachRun, HasReleased, IsGenuine, NoCollision, NoForgery, NoneForgedOf, PinnedIsKey, Premises, everybody}
 use Rattle.client_runs.specs.UsedOnce.{LeavesOnce}
+use Rattle.release_runs.specs.UsedOnce.{AreApart}
 use Rattle.fork_consistency.proofs.Holds.{structures}
 use Rattle.client_runs.proofs.Lowering.{low_owner}
 use Rattle.fork_consistency.proofs.Moves.{holds_at, signed_of}
@@ -58,14 +60,34 @@ AllGenuine keys [] = Unit {0}
 AllGenuine keys (e ∷ older) = All (IsReleasedText keys older) (shown_by e.call) × AllGenuine keys older
 
 -- no leaf of a key carries two texts, so that what the premise says under this condition holds
-module _ (keys : Keys) (whole : List Event) (once : (u : User) → LeavesOnce keys u whole) where
+module _ (keys : Keys) (apart : (u : User) → AreApart (keys u)) (whole : List Event) (once : (u : User) → LeavesOnce keys u whole) where
   each_genuine : (run : List Event) → NoneForgedOf everybody keys whole run → AllGenuine keys run
   each_genuine [] none = tt
   each_genuine (e ∷ older) none =
-      (to_all (IsReleasedText keys older) (shown_by e.call) (λ t j. of_all (λ (x : Shown). everybody x.user → IsGenuine keys whole older x) (shown_by e.call) none.0 t j tt (once t.user)), each_genuine older none.1)
+      (to_all (IsReleasedText keys older) (shown_by e.call) (λ t j. of_all (λ (x : Shown). everybody x.user → IsGenuine keys whole older x) (shown_by e.call) none.0 t j tt (apart t.user) (once t.user)), each_genuine older none.1)
 
-pub all_genuine : (keys : Keys) (run : List Event) → IsRun keys run → NoForgery keys run → AllGenuine keys run
-all_genuine keys run is none = each_genuine keys run (λ u. leaves_once keys run u is) run none
+pub all_genuine : (keys : Keys) (run : List Event) → IsRun keys run → AreKeys keys → NoForgery keys run → AllGenuine keys run
+all_genuine keys run is are none = each_genuine keys (λ u. are.apart u tt) run (λ u. leaves_once keys run u is) run none
+
+-- and where what is shown was released, nothing is forged
+pub none_forged : (keys : Keys) (whole run : List Event) → AllGenuine keys run → NoneForgedOf everybody keys whole run
+none_forged keys whole [] all = tt
+none_forged keys whole (e ∷ older) all =
+    (All-weaker (IsReleasedText keys older) (λ (t : Shown). everybody t.user → IsGenuine keys whole older t) (λ t g one apart once. g) (shown_by e.call) all.0, none_forged keys whole older all.1)
+
+-- What is shown with a valid signature was released, no digest collides, and user 0's client gave each user no key but
+-- the user's own.
+pub record IsGenuineRun (keys : Keys) (run : List Event) : Type 0 where
+  pub genuine : AllGenuine keys run
+  pub no_collision : NoCollision keys run
+  pub added : AddsOwnKeys keys run
+
+pub genuine_run : (keys : Keys) (run : List Event) → IsRun keys run → AreKeys keys → Premises keys run → IsGenuineRun keys run
+genuine_run keys run is are p = record { genuine = all_genuine keys run is are p.no_forgery; no_collision = p.no_collision; added = p.added }
+
+-- so what holds of such runs holds of each that meets the premises
+pub of_premises : (holds : Keys → List Event → Type 0) → ((keys : Keys) (run : List Event) → IsRun keys run → PinnedIsKey keys → IsGenuineRun keys run → holds keys run) → EachRun holds
+of_premises holds law keys run is are p = law keys run is are.pinned (genuine_run keys run is are p)
 
 pub genuine : (keys : Keys) (run : List Event) → AllGenuine keys run → (t : Shown) → In t (shown run) → (key : Key) → IsOwnKey keys t.user key → valid key t.text t.signature ≡ true → HasReleased t.user run t.text
 genuine keys [] none t i key own v = absurd i

@@ -26,7 +26,8 @@ use Rattle.agreement.proofs.Members.{In, contains_in, in-left, in_contains, of_a
 use Rattle.agreement.proofs.Tests.{all_in}
 use Rattle.fork_consistency.specs.Handles.{told_by_texts}
 use Rattle.fork_consistency.specs.LaidFiles.{NameLaidFiles, NamesLaid, NamesWhatWasLaid, StandsForFile, WereLaid}
-use Rattle.fork_consistency.specs.Premises.{HasReleased, PinnedIsKey, Premises}
+use Rattle.fork_consistency.proofs.Genuine.{IsGenuineRun}
+use Rattle.fork_consistency.specs.Premises.{HasReleased, PinnedIsKey}
 use Rattle.fork_consistency.proofs.Agreed.{all_released}
 use Rattle.fork_consistency.proofs.Among.{agrees_within, are_within, of_are_among}
 use Rattle.fork_consistency.proofs.Begun.{AllLaySuch, AmongThem, IsBegun, LaysSuch, begun_where, in_run, in_split}
@@ -78,7 +79,7 @@ module _ (texts : List Bytes) (apart : NoneCollide texts texts) (reads : Reading
 
 -- ---- over a run
 
-module _ (keys : Keys) (run : List Event) (is : IsRun keys run) (is_key : PinnedIsKey keys) (premises : Premises keys run) where
+module _ (keys : Keys) (run : List Event) (is : IsRun keys run) (is_key : PinnedIsKey keys) (premises : IsGenuineRun keys run) where
   abbrev texts : List Bytes
   texts = hashed keys run
 

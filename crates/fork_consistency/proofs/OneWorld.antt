@@ -27,7 +27,8 @@ use Rattle.agreement.proofs.Lines as lines
 use Rattle.agreement.proofs.Members.{In, in-left, in-map, in-right, of_all, to_all}
 use Rattle.agreement.proofs.Formed.{cert_fits}
 use Rattle.agreement.proofs.Runs.{accepted_in}
-use Rattle.fork_consistency.specs.Premises.{HasReleased, NoCollision, PinnedIsKey, Premises}
+use Rattle.fork_consistency.proofs.Genuine.{IsGenuineRun}
+use Rattle.fork_consistency.specs.Premises.{HasReleased, NoCollision, PinnedIsKey}
 use Rattle.client_runs.specs.Released.{hashed, hashed_at, released, views}
 use Rattle.client_runs.specs.Runs.{Event, IsRun, Keys, pinned as pinned_key}
 use Rattle.fork_consistency.proofs.Agreed.{all_released, are_accepted}
@@ -126,7 +127,7 @@ module _ (keys : Keys) (run : List Event) (is : IsRun keys run) (apart : NoColli
           let (text, q, is_cert) = in-filter_map (λ (t : Bytes). option_map (λ (s : Signed Cert). s.value) (cert_in u t)) (released u run) c m.0 in
           of_user u text (cert_in u text) c q refl is_cert
 
-module _ (keys : Keys) (run : List Event) (is : IsRun keys run) (is_key : PinnedIsKey keys) (premises : Premises keys run) where
+module _ (keys : Keys) (run : List Event) (is : IsRun keys run) (is_key : PinnedIsKey keys) (premises : IsGenuineRun keys run) where
   -- each certificate of a line was begun
   begun : (x : View) → In x (views run) → (c : Cert) → In c (line (views run) x) → cert.Fits c → IsBegun (AmongThem (hashed keys run)) c
   begun x i c j fits =

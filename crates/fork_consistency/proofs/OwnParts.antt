@@ -32,10 +32,11 @@ use Rattle.agreement.specs.Runs.{View}
 use Rattle.agreement.specs.Worlds.{Names, actor_in, view_in, world}
 use Rattle.agreement.proofs.Formed.{cert_fits}
 use Rattle.agreement.proofs.Members.{In, in-append, in-filter, in-left, in-map, in-right, map-in, of_all, to_all}
-use Rattle.fork_consistency.specs.Premises.{HasReleased, IsGenuine, NoneForgedOf, PinnedIsKey}
+use Rattle.fork_consistency.specs.Premises.{AreKeysOf, HasReleased, IsGenuine, NoneForgedOf}
 use Rattle.client_runs.specs.Released.{Shown, accepted_by, hashed, hashed_at, shown_by, shown_cert, shown_structure, tried_view, views}
 use Rattle.client_runs.specs.Runs.{Event, IsOwnKey, IsRun, Keys, client_of, owner, pinned as pinned_key}
 use Rattle.client_runs.specs.UsedOnce.{LeavesOnce}
+use Rattle.release_runs.specs.UsedOnce.{AreApart}
 use Rattle.fork_consistency.proofs.Genuine.{IsReleasedText, released_later, released_structure, pinned_own}
 use Rattle.fork_consistency.proofs.Holds.{IsTriedOver, known_in, signed_in}
 use Rattle.fork_consistency.proofs.Judging.{IsUnbroken, IsUnbrokenBy, cert_by_super, cert_verified, structure_by_super, structure_fits, structure_verified, unbroken, unbroken_by}
@@ -48,7 +49,7 @@ use Rattle.fork_consistency.specs.Handles.{IsWhole, told_by_texts}
 use Rattle.fork_consistency.specs.OwnParts.{IsOutside, IsOwnPart, OwnPartsStand, StolenPremises}
 use Rattle.fork_consistency.proofs.Acting.{at_most_one, filter_none, next_number, none_before, once_front, ordered}
 use Rattle.fork_consistency.proofs.AllHonest.{first_names}
-use Rattle.fork_consistency.proofs.ByCertificates.{SuperIsHonest, fewer_forged}
+use Rattle.fork_consistency.proofs.ByCertificates.{SuperIsHonest, fewer_forged, super_unforged}
 use Rattle.fork_consistency.proofs.ListedKeys.{list_own_keys, own_key_at}
 use Rattle.fork_consistency.proofs.Certificates.{all_more, found, none_first, one_more}
 use Rattle.fork_consistency.proofs.Firsts.{first_whole}
@@ -61,12 +62,11 @@ use Rattle.fork_consistency.proofs.Whole.{part_whole}
 -- ---- user 0
 
 -- what user 0 signed is genuine, since its key isn't stolen
-pub super_of : (stolen : User → Bool) (keys : Keys) (run : List Event) → PinnedIsKey keys → StolenPremises stolen keys run → SuperIsHonest keys run
-super_of stolen keys run is_key others = record {
-  no_forgery = fewer_forged (IsOutside stolen) (λ u. u ≡ 0) (λ u zero. ap stolen zero ∙ others.0) keys run run others.1.no_forgery;
-  no_collision = others.1.no_collision;
-  pinned = is_key;
-}
+pub super_of : (stolen : User → Bool) (keys : Keys) (run : List Event) → IsRun keys run → AreKeysOf (IsOutside stolen) keys → StolenPremises stolen keys run → SuperIsHonest keys run
+super_of stolen keys run is keys_are others =
+    let outside : (u : User) → u ≡ 0 → stolen u ≡ false = λ u zero. ap stolen zero ∙ others.0 in
+    super_unforged keys run is (record { pinned = keys_are.pinned; apart = λ u zero. keys_are.apart u (outside u zero) })
+    (fewer_forged (IsOutside stolen) (λ u. u ≡ 0) outside keys run run others.1.no_forgery) others.1.no_collision
 
 -- ---- what the user signed
 
@@ -357,20 +357,20 @@ module _ (keys : Keys) (whole : List Event) (is_whole : IsRun keys whole) (pinne
 
 -- ---- the law
 
-user_genuine : (stolen : User → Bool) (u : User) → stolen u ≡ false → (keys : Keys) (whole : List Event) → ((w : User) → LeavesOnce keys w whole) → (run : List Event) → NoneForgedOf (IsOutside stolen) keys whole run → UserGenuine u keys run
-user_genuine stolen u out keys whole once [] none = tt
-user_genuine stolen u out keys whole once (e ∷ older) none =
-    (All-weaker (λ (t : Shown). stolen t.user ≡ false → IsGenuine keys whole older t) (λ (t : Shown). t.user ≡ u → IsReleasedText keys older t) (λ t g same. g (ap stolen same ∙ out) (once t.user)) (shown_by e.call) none.0, user_genuine stolen u out keys whole once older none.1)
+user_genuine : (stolen : User → Bool) (u : User) → stolen u ≡ false → (keys : Keys) → ((w : User) → stolen w ≡ false → AreApart (keys w)) → (whole : List Event) → ((w : User) → LeavesOnce keys w whole) → (run : List Event) → NoneForgedOf (IsOutside stolen) keys whole run → UserGenuine u keys run
+user_genuine stolen u out keys apart whole once [] none = tt
+user_genuine stolen u out keys apart whole once (e ∷ older) none =
+    (All-weaker (λ (t : Shown). stolen t.user ≡ false → IsGenuine keys whole older t) (λ (t : Shown). t.user ≡ u → IsReleasedText keys older t) (λ t g same. g (ap stolen same ∙ out) (apart t.user (ap stolen same ∙ out)) (once t.user)) (shown_by e.call) none.0, user_genuine stolen u out keys apart whole once older none.1)
 
-pub own_parts : (stolen : User → Bool) (keys : Keys) (run : List Event) → IsRun keys run → PinnedIsKey keys → StolenPremises stolen keys run → OwnPartsStand stolen keys run
-own_parts stolen keys run is is_key others =
+pub own_parts : (stolen : User → Bool) (keys : Keys) (run : List Event) → IsRun keys run → AreKeysOf (IsOutside stolen) keys → StolenPremises stolen keys run → OwnPartsStand stolen keys run
+own_parts stolen keys run is keys_are others =
     to_all (λ x. (u : User) → u < 64 → stolen u ≡ false → IsOwnPart keys run u x) (views run)
     (λ x i u low out. (
     let first = λ (t : Bytes) (j : In t (first_texts (pinned_key keys))). in-right t (flat_map hashed_at run) (first_texts (pinned_key keys)) j in
     let v =
-    all_views keys run is is_key u low (hashed keys run) others.1.no_collision first run is (user_genuine stolen u out keys run (λ w. leaves_once keys run w is) run others.1.no_forgery) (λ text has. has)
-    (λ t j. in-left t (flat_map hashed_at run) (first_texts (pinned_key keys)) j) (λ y j v k at. own_key_at (IsOutside stolen) keys run is (super_of stolen keys run is_key others) others.1.added y j u v k out at) x i in
+    all_views keys run is keys_are.pinned u low (hashed keys run) others.1.no_collision first run is (user_genuine stolen u out keys keys_are.apart run (λ w. leaves_once keys run w is) run others.1.no_forgery) (λ text has. has)
+    (λ t j. in-left t (flat_map hashed_at run) (first_texts (pinned_key keys)) j) (λ y j v k at. own_key_at (IsOutside stolen) keys run is (super_of stolen keys run is keys_are others) others.1.added y j u v k out at) x i in
     record { number = v.number; released = v.released; part = v.part }))
 
-pub own_keys_stand : (stolen : User → Bool) (keys : Keys) (run : List Event) → IsRun keys run → PinnedIsKey keys → StolenPremises stolen keys run → ListOwnKeysOf (IsOutside stolen) keys run
-own_keys_stand stolen keys run is is_key others = list_own_keys (IsOutside stolen) keys run is (super_of stolen keys run is_key others) others.1.added
+pub own_keys_stand : (stolen : User → Bool) (keys : Keys) (run : List Event) → IsRun keys run → AreKeysOf (IsOutside stolen) keys → StolenPremises stolen keys run → ListOwnKeysOf (IsOutside stolen) keys run
+own_keys_stand stolen keys run is keys_are others = list_own_keys (IsOutside stolen) keys run is (super_of stolen keys run is keys_are others) others.1.added

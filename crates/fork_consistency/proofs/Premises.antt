@@ -16,7 +16,7 @@ use Rattle.client_runs.specs.UsedOnce.{LeavesOnce}
 use Rattle.client_runs.proofs.Once.{leaves_once}
 use Rattle.fork_consistency.specs.ForkConsistent.{HasNoUser}
 use Rattle.fork_consistency.specs.OwnParts.{IsOutside, StolenPremises}
-use Rattle.fork_consistency.specs.Premises.{AddsOwnKeysOf, GivesOwnKeyOf, IsGenuine, NoCollision, NoneForgedOf, Premises, PremisesOf, TextAddsOwnKeysOf, everybody}
+use Rattle.fork_consistency.specs.Premises.{AddsOwnKeysOf, AreKeys, AreKeysOf, GivesOwnKeyOf, IsGenuine, NoCollision, NoneForgedOf, Premises, PremisesOf, TextAddsOwnKeysOf, everybody}
 use Rattle.fork_consistency.proofs.ByCertificates.{fewer_forged}
 
 -- ---- at an earlier moment
@@ -34,7 +34,7 @@ module _ (keys : Keys) where
   forged_in : (some : User → Type 0) (whole part : List Event) → ((u : User) → LeavesOnce keys u whole) → (run : List Event) → NoneForgedOf some keys whole run → NoneForgedOf some keys part run
   forged_in some whole part once [] none = tt
   forged_in some whole part once (e ∷ older) none =
-      (All-weaker (λ (t : Shown). some t.user → IsGenuine keys whole older t) (λ (t : Shown). some t.user → IsGenuine keys part older t) (λ t g one here. g one (once t.user)) (shown_by e.call) none.0, forged_in some whole part once older none.1)
+      (All-weaker (λ (t : Shown). some t.user → IsGenuine keys whole older t) (λ (t : Shown). some t.user → IsGenuine keys part older t) (λ t g one apart here. g one apart (once t.user)) (shown_by e.call) none.0, forged_in some whole part once older none.1)
 
   none_forged_before : (some : User → Type 0) (later older : List Event) → IsRun keys (later ++ older) → NoneForgedOf some keys (later ++ older) (later ++ older) → NoneForgedOf some keys older older
   none_forged_before some later older is none =
@@ -114,3 +114,10 @@ of_nobody stolen keys run none = (
   (λ p. fewer_assumed keys (IsOutside stolen) everybody (λ u one. none u) run p.1),
   (λ p. (none 0, fewer_assumed keys everybody (IsOutside stolen) (λ u out. tt) run p)),
 )
+
+-- and so is what is asked of keys
+fewer_keys : (some few : User → Type 0) → ((u : User) → few u → some u) → (keys : Keys) → AreKeysOf some keys → AreKeysOf few keys
+fewer_keys some few among keys are = record { pinned = are.pinned; apart = λ u one. are.apart u (among u one) }
+
+pub keys_of_nobody : (stolen : User → Bool) (keys : Keys) → HasNoUser stolen → AreKeysOf (IsOutside stolen) keys ↔ AreKeys keys
+keys_of_nobody stolen keys none = (fewer_keys (IsOutside stolen) everybody (λ u one. none u) keys, fewer_keys everybody (IsOutside stolen) (λ u out. tt) keys)

@@ -16,7 +16,8 @@ use Rattle.agreement.specs.Worlds.{IsHonest, NameFirst, view_in, world}
 use Rattle.agreement.proofs.Formed.{same_spelled}
 use Rattle.agreement.proofs.Members.{In, in-left, in-right, in_contains, to_all}
 use Rattle.agreement.proofs.Worlds.{all_listed, are_worlds, guarded as any_guarded, judge_as_world, lose_void}
-use Rattle.fork_consistency.specs.Premises.{PinnedIsKey, Premises}
+use Rattle.fork_consistency.proofs.Genuine.{IsGenuineRun}
+use Rattle.fork_consistency.specs.Premises.{PinnedIsKey}
 use Rattle.client_runs.specs.Released.{hashed, hashed_at, views}
 use Rattle.client_runs.specs.Runs.{Event, IsRun, Keys, pinned as pinned_key}
 use Rattle.fork_consistency.proofs.Agreed.{apart, are_accepted}
@@ -33,7 +34,7 @@ use Rattle.fork_consistency.proofs.Tables.{first_table_named}
 pub can_read : (keys : Keys) (run : List Event) → CanBeRead keys run
 can_read keys run = some_reading (told_by_texts (hashed keys run))
 
-module _ (keys : Keys) (run : List Event) (is : IsRun keys run) (is_key : PinnedIsKey keys) (premises : Premises keys run) where
+module _ (keys : Keys) (run : List Event) (is : IsRun keys run) (is_key : PinnedIsKey keys) (premises : IsGenuineRun keys run) where
   abbrev key : Key
   key = pinned_key keys
 

@@ -1,4 +1,4 @@
--- The public keys of scripts have the form of a key.
+-- The keys of scripts are keys: user 0's has the form of one, and identifiers differ.
 use Rattle.std.proofs.Common.{◌≡◌, ℕ, zero, suc, ◌<◌, ◌-◌, ◌++◌, length, inl, inr, arith}
 use Rattle.std.specs.Prelude.{replicate}
 use Rattle.std.specs.Int.{w32}
@@ -7,7 +7,7 @@ use Rattle.std.proofs.lemmas.List.{get_or_append_left, length-replicate}
 use Rattle.std.proofs.Math.Seq.{get_or-append_right}
 use Rattle.layout.specs.Format.{IsBytes, be}
 use Rattle.layout.specs.HashLaws.{hash_fits}
-use Rattle.layout.specs.Types.{Bytes}
+use Rattle.layout.specs.Types.{Bytes, User}
 use Rattle.lms_sign.specs.Keys.{lms_type, ots_type, public_key_of}
 use Rattle.lms_sign.specs.Secret.{Secret}
 use Rattle.lms_sign.specs.Tree.{inner_node, node}
@@ -15,6 +15,8 @@ use Rattle.lms_sign.proofs.Validity.{is_key-public, length-public_key}
 use Rattle.principals.specs.TableText.{key as key_form}
 use Rattle.client_runs.specs.Runs.{pinned}
 use Rattle.client_runs.specs.Carried.{script_key, script_keys}
+use Rattle.client_runs.proofs.ScriptKeys.{scripts_apart}
+use Rattle.fork_consistency.specs.Premises.{AreKeysOf}
 
 -- ---- bytes
 
@@ -57,3 +59,7 @@ key_fits secret size are = ((length-public_key secret size, key_bytes secret are
 -- user 0's, which every client knows, has it
 pub pinned_fits : key_form.Fits (pinned script_keys)
 pinned_fits = key_fits (script_key 0 0) (length-replicate {A = ℕ} 16 0) (same_bytes 16 0 (omega arith))
+
+-- and no two of a user's have one identifier
+pub script_keys_are : (some : User → Type 0) → AreKeysOf some script_keys
+script_keys_are some = record { pinned = pinned_fits; apart = λ u one. scripts_apart u }

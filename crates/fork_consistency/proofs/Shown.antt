@@ -32,7 +32,8 @@ use Rattle.client_steps.specs.Steps.{Call, Client, Closed, Gives, HasGiven, HasL
 use Rattle.client_runs.specs.Released.{accepted_by, hashed, hashed_at, hashed_by, tried_view, views}
 use Rattle.client_runs.specs.Runs.{Event, IsRun, Keys, client_of, owner, pinned as pinned_key}
 use Rattle.fork_consistency.specs.Handles.{told_by_texts}
-use Rattle.fork_consistency.specs.Premises.{NoCollision, PinnedIsKey, Premises}
+use Rattle.fork_consistency.proofs.Genuine.{IsGenuineRun}
+use Rattle.fork_consistency.specs.Premises.{NoCollision, PinnedIsKey}
 use Rattle.fork_consistency.specs.Shown.{EachTells, HaveTrees, IsOfView, IsOfWorld, IsTrueInView, IsTrueInWorld, IsTrueOf, ShowTrees, ShowWorlds, answered, last_view, seen_in, view_told}
 use Rattle.fork_consistency.specs.Worlds.{AreWorldsBy, HasUsers, IsReadingOf, IsUsersOf, LosesVoid, IsWorldsTable, TreeIsWorld}
 use Rattle.fork_consistency.proofs.Among.{AreAmong, agrees_within, among_kept, are_within}
@@ -272,7 +273,7 @@ module _ (accepted : List View) (P Q : View → Question → Sees → Type 0) (R
 
 -- ---- the worlds of lines
 
-module _ (keys : Keys) (run : List Event) (is : IsRun keys run) (is_key : PinnedIsKey keys) (premises : Premises keys run) (reads : Reading) (agrees : IsReadingOf keys run reads) where
+module _ (keys : Keys) (run : List Event) (is : IsRun keys run) (is_key : PinnedIsKey keys) (premises : IsGenuineRun keys run) (reads : Reading) (agrees : IsReadingOf keys run reads) where
   abbrev pinned : Key
   pinned = pinned_key keys
 
@@ -315,5 +316,5 @@ module _ (keys : Keys) (run : List Event) (is : IsRun keys run) (is_key : Pinned
       in_other_words (views run) (IsTrueInView reads pinned) (IsTrueInWorld reads pinned (views run)) (IsOfView reads pinned) (IsOfWorld reads pinned (views run)) answer_in_world view_in_world run (λ x i. i)
       (show_trees keys run is premises.no_collision reads agrees).told
 
-pub show_worlds : (keys : Keys) (run : List Event) → IsRun keys run → PinnedIsKey keys → Premises keys run → ShowWorlds keys run
+pub show_worlds : (keys : Keys) (run : List Event) → IsRun keys run → PinnedIsKey keys → IsGenuineRun keys run → ShowWorlds keys run
 show_worlds keys run is is_key premises reads agrees = each_world keys run is is_key premises reads agrees

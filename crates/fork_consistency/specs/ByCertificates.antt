@@ -9,7 +9,7 @@ use Rattle.principals.specs.TableText.{table}
 use Rattle.update_cert.specs.Cert.{Cert}
 use Rattle.update_cert.specs.Tables.{table_after}
 use Rattle.client_releases.specs.Told.{cert_in}
-use Rattle.fork_consistency.specs.Premises.{NoCollision, NoneForgedOf, PinnedIsKey}
+use Rattle.fork_consistency.specs.Premises.{AreKeysOf, NoCollision, NoneForgedOf}
 use Rattle.client_runs.specs.Released.{released, views}
 use Rattle.client_runs.specs.Runs.{Event, IsOwnKey, IsRun, Keys, pinned}
 
@@ -46,12 +46,12 @@ pub record IsByCertificates (key : Key) (run : List Event) (t : Table) : Type 0 
 
 -- ---- runs
 
--- what holds of each run in which no signature of user 0's is forged, and no digest collides: the keys of other users
--- may be anybody's
+-- what holds of each run in which no signature of user 0's is forged, no digest collides, and no two keys of user 0's
+-- have one identifier: the keys of other users may be anybody's
 abbrev pub EachHonestSuper : (Keys → List Event → Type 0) → Type 0
 EachHonestSuper holds =
-    (keys : Keys) (run : List Event) → IsRun keys run → PinnedIsKey keys → NoneForgedOf (λ u. u ≡ 0) keys run run
-    → NoCollision keys run → holds keys run
+    (keys : Keys) (run : List Event) → IsRun keys run → AreKeysOf (λ u. u ≡ 0) keys
+    → NoneForgedOf (λ u. u ≡ 0) keys run run → NoCollision keys run → holds keys run
 
 -- the tables of accepted views are by certificates
 abbrev pub AreByCertificates : Keys → List Event → Type 0

@@ -82,7 +82,7 @@ pub record AreForkConsistent (keys : Keys) (run : List Event) : Type 0 where
 
 -- What holds of the accepted views where the server has the keys of the users of a set.
 pub record StandWhereStolen (stolen : User → Bool) (keys : Keys) (run : List Event) : Type 0 where
-  -- The table of principals is still by user 0's certificates, and lists each user outside the set with its own key;
+  -- The table of principals is still by user 0's certificates, and lists each user outside the set with its own keys;
   pub tables : AreByCertificates keys run
   pub keys_are : ListOwnKeysOf (IsOutside stolen) keys run
   -- the part of such a user is by the user's own certificates, up to some number, as each reading of the run's texts
@@ -118,7 +118,8 @@ HasNoUser stolen = (u : User) → stolen u ≡ false
 -- The steps with their answers are a run of clients, in which each refusal names the first broken rule, and leave no
 -- choice of its calls and of what these release; that is used once; under the premises the accepted views are fork
 -- consistent, as they were at each moment, by what was released then; and so is what holds where keys are stolen. That
--- user 0's key has the form of a key is no premise: of the keys of scripts it is proved.
+-- user 0's key has the form of a key, and that no two keys of a user have one identifier, is no premise: of the keys of
+-- scripts it is proved.
 -- `consistent` and `where_stolen` follow from the fields of each moment, of which the last is the whole run.
 pub record IsForkConsistent {A : Type 0} (steps : List (WorldStep A)) (answers : List (Answer A)) : Type 0 where
   pub events : List Event

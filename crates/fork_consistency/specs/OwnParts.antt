@@ -10,7 +10,7 @@ use Rattle.agreement.specs.Runs.{View}
 use Rattle.agreement.specs.Worlds.{view_in, world}
 use Rattle.client_runs.specs.Released.{views}
 use Rattle.client_runs.specs.Runs.{Event, IsRun, Keys, pinned}
-use Rattle.fork_consistency.specs.Premises.{PinnedIsKey, PremisesOf}
+use Rattle.fork_consistency.specs.Premises.{AreKeysOf, PremisesOf}
 use Rattle.fork_consistency.specs.ByCertificates.{HasAllUpTo, certificates_up_to}
 use Rattle.fork_consistency.specs.Worlds.{IsReadingOf}
 
@@ -50,5 +50,5 @@ OnePart keys run =
 -- over each run
 abbrev pub EachRunOfOthers : ((User → Bool) → Keys → List Event → Type 0) → Type 0
 EachRunOfOthers holds =
-    (stolen : User → Bool) (keys : Keys) (run : List Event) → IsRun keys run → PinnedIsKey keys
+    (stolen : User → Bool) (keys : Keys) (run : List Event) → IsRun keys run → AreKeysOf (IsOutside stolen) keys
     → StolenPremises stolen keys run → holds stolen keys run

@@ -14,6 +14,7 @@ use Rattle.client_journal.specs.Records.{unsigned}
 use Rattle.client_runs.specs.Runs.{Event, IsOwnKey, IsRun, Keys, pinned}
 use Rattle.client_runs.specs.Released.{Shown, hashed, released, shown_by, views}
 use Rattle.client_runs.specs.UsedOnce.{LeavesOnce}
+use Rattle.release_runs.specs.UsedOnce.{AreApart}
 
 -- ---- premises
 
@@ -21,12 +22,12 @@ use Rattle.client_runs.specs.UsedOnce.{LeavesOnce}
 abbrev pub HasReleased : User → List Event → Bytes → Type 0
 HasReleased u run text = Contains (map unsigned (released u run)) text
 
--- what verifies under one of the user's own keys was released by the user's client, if of the texts that this client
--- released in the whole run no two of one key carry one leaf number
+-- what verifies under one of the user's own keys was released by the user's client, if no two of these keys have one
+-- identifier, and of the texts that this client released in the whole run no two of one key carry one leaf number
 abbrev pub IsGenuine : Keys → List Event → List Event → Shown → Type 0
 IsGenuine keys whole older t =
-    LeavesOnce keys t.user whole → (key : Key) → IsOwnKey keys t.user key → valid key t.text t.signature ≡ true
-    → HasReleased t.user older t.text
+    AreApart (keys t.user) → LeavesOnce keys t.user whole → (key : Key) → IsOwnKey keys t.user key
+    → valid key t.text t.signature ≡ true → HasReleased t.user older t.text
 
 -- all users
 abbrev pub everybody : User → Type 0
@@ -77,10 +78,19 @@ Premises keys run = PremisesOf everybody keys run
 abbrev pub PinnedIsKey : Keys → Type 0
 PinnedIsKey keys = key_form.Fits (pinned keys)
 
+-- User 0's first key, which every client knows, has the form of a key; and no two keys of one of these users have one
+-- identifier.
+pub record AreKeysOf (some : User → Type 0) (keys : Keys) : Type 0 where
+  pub pinned : PinnedIsKey keys
+  pub apart : (u : User) → some u → AreApart (keys u)
+
+abbrev pub AreKeys : Keys → Type 0
+AreKeys keys = AreKeysOf everybody keys
+
 -- what holds of each run that meets them
 abbrev pub EachRun : (Keys → List Event → Type 0) → Type 0
 EachRun holds =
-    (keys : Keys) (run : List Event) → IsRun keys run → PinnedIsKey keys → Premises keys run → holds keys run
+    (keys : Keys) (run : List Event) → IsRun keys run → AreKeys keys → Premises keys run → holds keys run
 
 -- and of each run in which no digest collides, whoever has whose keys
 abbrev pub EachRunApart : (Keys → List Event → Type 0) → Type 0

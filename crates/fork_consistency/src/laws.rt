@@ -11,16 +11,18 @@ ghost use Rattle.fork_consistency.specs.ForkConsistent.{AreForkConsistent, AtEac
 ghost use Rattle.fork_consistency.specs.ForkConsistent.{StandWhereStolen};
 ghost use Rattle.fork_consistency.specs.Handles.{AllAreWhole, FirstAreWhole, SignsItsTable};
 ghost use Rattle.fork_consistency.specs.LaidFiles.{NameLaidFiles};
-ghost use Rattle.fork_consistency.specs.OwnParts.{EachRunOfOthers, StolenPremises};
+ghost use Rattle.fork_consistency.specs.OwnParts.{EachRunOfOthers, IsOutside, StolenPremises};
 ghost use Rattle.fork_consistency.specs.Shown.{ShowTrees, ShowWorlds};
-ghost use Rattle.fork_consistency.specs.Premises.{AddsOwnKeys, EachRun, EachRunApart, Premises, everybody};
+ghost use Rattle.fork_consistency.specs.Premises.{AddsOwnKeys, AreKeys, AreKeysOf, EachRun, EachRunApart};
+ghost use Rattle.fork_consistency.specs.Premises.{Premises, everybody};
 ghost use Rattle.fork_consistency.specs.Signed.{AreSigned, ChangesHaveCauses, EachRunAtAll};
 ghost use Rattle.fork_consistency.specs.Signed.{GroupsStandOnSigned, UsersStandOnSigned};
 ghost use Rattle.fork_consistency.specs.Worlds.{AreWorldsIn, CanBeRead, OneWorld};
 
 /// In each accepted view of a run the table of principals is that of the beginning, changed by the certificates that
 /// user 0's client released, in order, up to some number: as long as no signature of user 0's is forged, no digest
-/// collides and user 0's key has the form of a key, whoever else's keys the server has.
+/// collides, user 0's key has the form of a key, and no two keys of user 0's have one identifier, whoever else's keys the
+/// server has.
 pub fn tables_are_by_certificates()
     ensures tables { EachHonestSuper AreByCertificates }
     // So it has a text,
@@ -32,7 +34,7 @@ pub fn tables_are_by_certificates()
 {}
 
 /// The i-table that a handle names is among the texts of the run, as long as no digest collides, no signature is
-/// forged, and user 0's client added each user with the user's own key.
+/// forged, user 0's client added each user with the user's own key, and keys are as runs_are_fork_consistent asks.
 pub fn handles_are_whole()
     // So is the i-table of each principal at the beginning,
     ensures first { EachRun FirstAreWhole }
@@ -41,7 +43,8 @@ pub fn handles_are_whole()
 {}
 
 /// An accepted view of a run is the world of its line, as each reading tells it that the run's texts allow, as long as
-/// no digest collides, no signature is forged, and user 0's client added each user with the user's own key.
+/// no digest collides, no signature is forged, user 0's client added each user with the user's own key, and keys are as
+/// runs_are_fork_consistent asks.
 pub fn views_of_runs_are_worlds()
     ensures worlds { EachRun AreWorldsIn }
     // There is such a reading,
@@ -56,8 +59,8 @@ pub fn views_of_runs_are_worlds()
 {}
 
 /// Every run of all users' clients is fork consistent, as long as no digest collides, no signature is forged, user 0's
-/// client added each user with the user's own key, and user 0's key has the form of a key. Of servers nothing is
-/// assumed.
+/// client added each user with the user's own key, user 0's key has the form of a key, and no two keys of a user have
+/// one identifier. Of servers nothing is assumed.
 pub fn runs_are_fork_consistent()
     ensures consistent { EachRun AreForkConsistent }
     // So each was at each of its moments, by what had been released by then.
@@ -66,18 +69,21 @@ pub fn runs_are_fork_consistent()
 
 /// Where the server has the keys of some users, never of user 0: in each accepted view the part of each other user is
 /// that of the world of this user's own certificates, up to some number, as long as no signature of these others is
-/// forged, no digest collides, and user 0's client added each of them with the user's own key. With what else holds of
-/// such a view.
+/// forged, no digest collides, user 0's client added each of them with the user's own key, user 0's key has the form of a
+/// key, and no two keys of one of them have one identifier. With what else holds of such a view.
 pub fn own_parts_stand()
     ensures stand { EachRunOfOthers StandWhereStolen }
     // So it was at each moment of the run, by what had been released by then.
     ensures at_each { EachRunOfOthers (λ stolen keys run. AtEachMoment (StandWhereStolen stolen keys) run) }
 {}
 
-/// Where nobody's key is stolen, the premises of what holds where keys are stolen are those of fork consistency.
+/// Where nobody's key is stolen, the premises of what holds where keys are stolen are those of fork consistency, and so
+/// is what is asked of keys.
 pub fn stolen_by_nobody()
-    ensures { (stolen : User → Bool) (keys : Keys) (run : List Event) → HasNoUser stolen
+    ensures premises { (stolen : User → Bool) (keys : Keys) (run : List Event) → HasNoUser stolen
         → StolenPremises stolen keys run ↔ Premises keys run }
+    ensures keys { (stolen : User → Bool) (keys : Keys) → HasNoUser stolen
+        → AreKeysOf (IsOutside stolen) keys ↔ AreKeys keys }
 {}
 
 /// Whoever has whose keys, as long as no digest collides: each accepted view of a run has a tree, and what its client

@@ -28,7 +28,8 @@ use Rattle.client_runs.proofs.Replies.{IsJudged, IsUnder, lists_back, of_lists, 
 use Rattle.agreement.specs.Runs.{View, user_of}
 use Rattle.agreement.proofs.Formed.{cert_fits}
 use Rattle.agreement.proofs.Members.{In, contains_in, in-append, in-left, in-right, in_contains, of_all, to_all}
-use Rattle.fork_consistency.specs.Premises.{HasReleased, NoCollision, Premises, TextAddsOwnKeysOf, everybody}
+use Rattle.fork_consistency.specs.Premises.{HasReleased, NoCollision, TextAddsOwnKeysOf, everybody}
+use Rattle.fork_consistency.proofs.Genuine.{IsGenuineRun}
 use Rattle.fork_consistency.specs.Shown.{last_view}
 use Rattle.fork_consistency.proofs.AllFilled.{lists_backed, view_backed}
 use Rattle.fork_consistency.proofs.Among.{AreAmong}
@@ -133,7 +134,7 @@ module _ (keys : Keys) where
   pub apart_hashed : (run : List HonestEvent) → NoneCollide (all_texts keys run) (all_texts keys run) → NoCollision keys (events run)
   apart_hashed run apart = fewer_collide (all_texts keys run) (hashed keys (events run)) (in_hashed run) apart
 
-  premises_of : (run : List HonestEvent) → IsGoodRun keys run → Premises keys (events run)
+  premises_of : (run : List HonestEvent) → IsGoodRun keys run → IsGenuineRun keys (events run)
   premises_of run g = premises keys run g.is_run (apart_hashed run g.apart) g.true_keys
 
   -- ---- what was shown

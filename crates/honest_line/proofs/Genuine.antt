@@ -22,8 +22,8 @@ use Rattle.consistency_server.specs.Answers.{Answer, Call}
 use Rattle.consistency_server.specs.History as server
 use Rattle.consistency_server.specs.History.{is_carried_out}
 use Rattle.agreement.proofs.Members.{In, to_all}
-use Rattle.fork_consistency.specs.Premises.{HasReleased, IsGenuine, NoneForgedOf, everybody}
-use Rattle.fork_consistency.proofs.Genuine.{released_later}
+use Rattle.fork_consistency.specs.Premises.{HasReleased}
+use Rattle.fork_consistency.proofs.Genuine.{AllGenuine, IsReleasedText, none_forged, released_later}
 use Rattle.honest_runs.specs.HonestRuns.{Exchange, HonestEvent, IsAnswered, IsHandedIn, IsHonestRun, TookPlace, WasTold, carried_out, events, history, sent_by, stored}
 use Rattle.honest_runs.proofs.Events.{are_runs, events_with, with_exchange, with_step}
 use Rattle.honest_dialogues.specs.Dialogue.{success}
@@ -121,19 +121,20 @@ module _ (keys : Keys) where
       reply_released h older is client text handed t (some_shown answer (option_map_or shown_in (reply_in text) []) t i)
   shown_here h older is client blocks call handed t i = absurd i
 
-  none_forged : (whole : List Event) (run : List HonestEvent) → IsHonestRun keys run → NoneForgedOf everybody keys whole (events run)
-  none_forged whole [] is = tt
-  none_forged whole (h ∷ older) is =
-      subst (λ (es : List Event). NoneForgedOf everybody keys whole es) (sym (with_step h older)) (go h.step is.0.handed_in (none_forged whole older is.1))
+  -- so was all that is shown in the run
+  pub all_shown : (run : List HonestEvent) → IsHonestRun keys run → AllGenuine keys (events run)
+  all_shown [] is = tt
+  all_shown (h ∷ older) is =
+      subst (λ (es : List Event). AllGenuine keys es) (sym (with_step h older)) (go h.step is.0.handed_in (all_shown older is.1))
     where
-      go : (s : Option StepTaken) → IfSome s (λ t. IsHandedIn (h ∷ older) (client_of h.user (events older)) (held (stored older)) t.call) → NoneForgedOf everybody keys whole (events older)
-          → NoneForgedOf everybody keys whole (events_with h.user s (events older))
+      go : (s : Option StepTaken) → IfSome s (λ t. IsHandedIn (h ∷ older) (client_of h.user (events older)) (held (stored older)) t.call) → AllGenuine keys (events older)
+          → AllGenuine keys (events_with h.user s (events older))
       go None handed ih = ih
       go (Some s) handed ih = (
-        to_all (λ (t : Shown). everybody t.user → IsGenuine keys whole (events older) t) (shown_by s.call) (λ t i one once k own v.
+        to_all (IsReleasedText keys (events older)) (shown_by s.call) (λ t i k own v.
             shown_here h older is (client_of h.user (events older)) (held (stored older)) s.call handed t i),
         ih,
       )
 
 pub nothing_forged : NothingIsForged
-nothing_forged keys run is = none_forged keys (events run) run is
+nothing_forged keys run is = none_forged keys (events run) (events run) (all_shown keys run is)

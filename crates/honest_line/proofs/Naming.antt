@@ -23,7 +23,8 @@ use Rattle.client_steps.specs.Steps.{Asks, Client, Open, Takes}
 use Rattle.client_runs.specs.Released.{hashed, hashed_at, views}
 use Rattle.client_runs.specs.Runs.{Event, IsRun, Keys, client_of, pinned}
 use Rattle.fork_consistency.specs.Handles.{NamesTableAmong, told_by_texts}
-use Rattle.fork_consistency.specs.Premises.{AddsOwnKeys, NoCollision, PinnedIsKey, Premises}
+use Rattle.fork_consistency.specs.Premises.{AddsOwnKeys, NoCollision, PinnedIsKey}
+use Rattle.fork_consistency.proofs.Genuine.{IsGenuineRun}
 use Rattle.fork_consistency.proofs.Among.{AreAmong, agrees_within, among_kept, are_within}
 use Rattle.fork_consistency.proofs.ByCertificates.{SuperIsHonest, first_in, super_honest, view}
 use Rattle.fork_consistency.proofs.Origins.{Knows, KnowsClient, known_at}
@@ -33,7 +34,7 @@ use Rattle.honest_dialogues.specs.Dialogue.{IsNaming}
 use Rattle.honest_runs.specs.HonestRuns.{HonestEvent, IsHonestRun, events}
 use Rattle.honest_line.specs.OneLine.{all_texts}
 use Rattle.honest_line.specs.Naming.{first_named, named_by, naming_of}
-use Rattle.honest_line.proofs.Genuine.{nothing_forged}
+use Rattle.honest_line.proofs.Genuine.{all_shown}
 use Rattle.honest_line.proofs.Signing.{CanSign}
 
 -- ---- premises
@@ -50,8 +51,8 @@ pub record IsAssumed (keys : Keys) (run : List HonestEvent) : Type 0 where
   pub signers : (u : User) → CanSign keys u
 
 -- of an honest run the premise on forgery is none
-pub premises : (keys : Keys) (run : List HonestEvent) → IsHonestRun keys run → NoCollision keys (events run) → KeysTrue keys (events run) → Premises keys (events run)
-premises keys run is apart true_keys = record { no_forgery = nothing_forged keys run is; no_collision = apart; added = true_keys.added }
+pub premises : (keys : Keys) (run : List HonestEvent) → IsHonestRun keys run → NoCollision keys (events run) → KeysTrue keys (events run) → IsGenuineRun keys (events run)
+premises keys run is apart true_keys = record { genuine = all_shown keys run is; no_collision = apart; added = true_keys.added }
 
 pub super_is_honest : (keys : Keys) (run : List HonestEvent) → IsHonestRun keys run → NoCollision keys (events run) → KeysTrue keys (events run) → SuperIsHonest keys (events run)
 super_is_honest keys run is apart true_keys = super_honest keys (events run) true_keys.pinned (premises keys run is apart true_keys)

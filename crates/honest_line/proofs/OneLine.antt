@@ -14,14 +14,14 @@ use Rattle.client_runs.specs.Carried.{script_key, script_keys}
 use Rattle.client_runs.specs.Released.{views}
 use Rattle.client_runs.specs.Runs.{Keys, pinned}
 use Rattle.client_runs.proofs.Once.{certificates_once, leaves_once, structures_once}
-use Rattle.fork_consistency.proofs.Consistent.{consistent}
+use Rattle.fork_consistency.proofs.Consistent.{consistent_genuine}
 use Rattle.fork_consistency.proofs.ScriptKeys.{pinned_fits}
 use Rattle.honest_history.specs.Placed.{placed}
 use Rattle.honest_runs.specs.declared.step.HonestStep.{HonestStep}
 use Rattle.honest_runs.specs.HonestRuns.{HonestEvent, IsHonestRun, events, history}
 use Rattle.honest_runs.specs.Served.{AreServed}
 use Rattle.honest_runs.proofs.Events.{are_runs}
-use Rattle.honest_line.specs.OneLine.{AreKeys, AreOnOneLine, EachHonestRun, IsOneLine, IsSecret}
+use Rattle.honest_line.specs.OneLine.{AreOnOneLine, AreSigningKeys, EachHonestRun, IsOneLine, IsSecret}
 use Rattle.honest_line.proofs.GoingOn.{all_lead_on}
 use Rattle.honest_line.proofs.Line.{apart, line_of, promised}
 use Rattle.honest_line.proofs.Naming.{IsAssumed, premises}
@@ -36,7 +36,7 @@ on_one_line keys run is p =
       next = each_can_go_on keys run is p;
       lead_on = all_lead_on keys run is steps.0;
       lines = to_all (λ x. IsBeginning (line (views (events run)) x) (placed (pinned keys) (history run))) (views (events run)) (line_of keys run is p);
-      consistent = consistent keys (events run) (are_runs keys run is) p.true_keys.pinned (premises keys run is (apart keys run is p) p.true_keys);
+      consistent = consistent_genuine keys (events run) (are_runs keys run is) p.true_keys.pinned (premises keys run is (apart keys run is p) p.true_keys);
     }
 
 pub each_honest_run : EachHonestRun
@@ -54,8 +54,8 @@ script_secret u n = record {
   leaves = drawn_has (replicate 32 u) (replicate 16 (u + 64 * n));
 }
 
-script_keys_are : AreKeys script_keys
-script_keys_are = record {
+script_keys_sign : AreSigningKeys script_keys
+script_keys_sign = record {
   pinned = pinned_fits;
   each = λ u. all_of u (u == 0);
 }
@@ -77,7 +77,7 @@ carried steps answers c =
       leaves = λ u. leaves_once script_keys (events c.run) u run;
       certificates = λ u. certificates_once script_keys (events c.run) u run;
       structures = λ u. structures_once script_keys (events c.run) u run;
-      one_line = each_honest_run script_keys c.run c.is_run script_keys_are;
+      one_line = each_honest_run script_keys c.run c.is_run script_keys_sign;
     }
 
 -- so is what a call answers with them

@@ -71,14 +71,14 @@ pub record IsSecret (secret : Secret) : Type 0 where
   pub leaves : (leaf : LeafNumber) → leaf < number_of_leaves → HasLeaf secret leaf
 
 -- The key of user 0's that every client knows has the form of a key, and each user's keys can sign.
-pub record AreKeys (keys : Keys) : Type 0 where
+pub record AreSigningKeys (keys : Keys) : Type 0 where
   pub pinned : PinnedIsKey keys
   pub each : (u : User) → All IsSecret (keys u)
 
 -- so it is over each honest run
 abbrev pub EachHonestRun : Type 0
 EachHonestRun =
-    (keys : Keys) (run : List HonestEvent) → IsHonestRun keys run → AreKeys keys → HonestPremises keys run
+    (keys : Keys) (run : List HonestEvent) → IsHonestRun keys run → AreSigningKeys keys → HonestPremises keys run
     → AreOnOneLine keys run
 
 -- ---- steps that are carried out

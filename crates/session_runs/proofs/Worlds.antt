@@ -49,9 +49,9 @@ module _ {T : Type 0} (answers : Answering T) (reads : Reading) (key : Key) (acc
       life_told mid later end l next after more (steps_users o before (steps_by answers x) mid (deed_is_steps answers o before x mid one) own) (from c mid l next (flat_map (steps_by answers) later) after at rest) d i
 
 pub sessions_tell_worlds : {T : Type 0} (answers : Answering T) → SessionsTellWorlds answers
-sessions_tell_worlds answers keys lives run are is_key premises reads agrees u =
+sessions_tell_worlds answers keys lives run are keys_are premises reads agrees u =
     let is : IsRun keys run = lives_are_runs answers keys lives run are in
-    let told = (consistent keys run is is_key premises).lines.shown reads agrees in
+    let told = (consistent keys run is keys_are premises).lines.shown reads agrees in
     let key = pinned keys in
     let whole = along_run (IsTrueInWorld reads key (views run)) (IsOfWorld reads key (views run)) (views run) u keys run is told (λ x i. i) in
     to_all (IsTold answers reads key (views run) u) (lives u)

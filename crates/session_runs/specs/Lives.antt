@@ -8,7 +8,7 @@ use Rattle.client_runs.specs.OfUsers.{steps_of}
 use Rattle.client_runs.specs.Runs.{Event, IsRun, Keys, client_of, owner}
 use Rattle.commands.specs.Answers.{Answer}
 use Rattle.commands.specs.declared.command.Command.{Command}
-use Rattle.fork_consistency.specs.Premises.{PinnedIsKey, Premises}
+use Rattle.fork_consistency.specs.Premises.{AreKeys, Premises}
 use Rattle.file_session.specs.declared.stop.Stop.{Stop}
 use Rattle.file_session.specs.Calls.{step_of}
 use Rattle.file_session.specs.Order.{Calls, Move, resuming}
@@ -42,7 +42,7 @@ pub record CutShort {T : Type 0} (answers : Answering T) : Type 0 where
   pub run : Moves answers (start before over) moves reached
 
 -- A session carries out a command, or is cut short. Or the client takes a step by itself: it is opened, or refused, it
--- is closed, or it crashes.
+-- is closed, it gains a key while it is, or it crashes.
 pub data Deed {T : Type 0} (answers : Answering T) : Type 0 where
   Carries : Carried answers → Deed answers
   IsCut : CutShort answers → Deed answers
@@ -93,4 +93,4 @@ LivesAreRuns answers = (keys : Keys) (lives : User → List (Deed answers)) (run
 -- what holds of each of them that meets the premises
 abbrev pub EachLives : {T : Type 0} → Answering T → (Keys → List Event → Type 0) → Type 0
 EachLives answers holds = (keys : Keys) (lives : User → List (Deed answers)) (run : List Event)
-    → AreLives answers keys lives run → PinnedIsKey keys → Premises keys run → holds keys run
+    → AreLives answers keys lives run → AreKeys keys → Premises keys run → holds keys run

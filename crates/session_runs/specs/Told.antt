@@ -15,7 +15,7 @@ use Rattle.client_runs.specs.Runs.{Event, Keys, pinned}
 use Rattle.commands.specs.Answers.{Answer}
 use Rattle.commands.specs.Asked.{Tells, Writes, outcome, told_of_lost}
 use Rattle.commands.specs.declared.command.Command.{Command}
-use Rattle.fork_consistency.specs.Premises.{PinnedIsKey, Premises}
+use Rattle.fork_consistency.specs.Premises.{AreKeys, Premises}
 use Rattle.fork_consistency.specs.Shown.{seen_in}
 use Rattle.fork_consistency.specs.Worlds.{AreLost, IsReadingOf}
 use Rattle.file_session.specs.Calls.{Signs}
@@ -134,5 +134,5 @@ IsTold answers reads key accepted u (Takes s) = Unit {0}
 -- In lives that meet the premises of fork consistency, as each reading of the run's texts tells it.
 abbrev pub SessionsTellWorlds : {T : Type 0} → Answering T → Type 0
 SessionsTellWorlds answers = (keys : Keys) (lives : User → List (Deed answers)) (run : List Event)
-    → AreLives answers keys lives run → PinnedIsKey keys → Premises keys run → (reads : Reading)
+    → AreLives answers keys lives run → AreKeys keys → Premises keys run → (reads : Reading)
     → IsReadingOf keys run reads → (u : User) → All (IsTold answers reads (pinned keys) (views run) u) (lives u)
