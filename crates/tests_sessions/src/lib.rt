@@ -1,6 +1,6 @@
 //! Tests of sessions. Commands by their words, over a server in memory and over TCP; what a server that lies comes to,
 //! and what a client that refuses; how many exchanges a command has; a session that is stopped at each of them, or
-//! whose memory runs out.
+//! whose memory runs out; and users of several keys.
 #![tactic(auto)]
 
 #[cfg(test)]
@@ -29,6 +29,8 @@ mod operations;
 mod over_tcp;
 #[cfg(test)]
 mod refusals;
+#[cfg(test)]
+mod several_keys;
 #[cfg(test)]
 mod stopped;
 #[cfg(test)]
