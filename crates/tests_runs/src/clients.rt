@@ -3,15 +3,17 @@
 use crate::acts::{NEVER, fails_of, row_of};
 use crate::answers::{fields, look_text, opened_text, step_text, view_text};
 use crate::notes::{Notes, USERS};
-use crate::planning::{planned_of, user};
+use crate::planning::{later_key, planned_of, user};
 use client_verify::{Look, Phase, Step};
 use layout::{let_go, put_in};
+use lms_sign::PublicKey;
 use std::alloc::Global;
 use tests_aids::texts::{joined, key_of};
 use tests_aids::{Aided, Host, check_text, found, given};
 use tests_client_aids::changes::Planned;
 use tests_client_aids::clients::{
-    Kept, MemoryClient, begun, client_with, end, give, hand, look_at, open_over, signed, step_on,
+    ClientParts, Kept, MemoryClient, begun, client_with, device_of, end, give, hand, look_at,
+    open_over, open_parts, signed, signed_again, step_on,
 };
 use tests_client_aids::crashes::{Left, after_crash, bytes_left, has_failed};
 use wire::Status;
@@ -58,6 +60,13 @@ fn declares(
     joined(rt, &[b"edd"])
 }
 
+/// It signs its certificate once more, by its key of this number.
+fn resigns(rt: &impl Aided, client: &mut MemoryClient, number: &[u8]) -> Vec<u8> {
+    let number = usize::from(*found(rt, number.first(), "a number"));
+    let update = given(rt, signed_again(rt, client, number), "a certificate");
+    joined(rt, &[b"b", &update])
+}
+
 /// It signs what it accepted: the structure, or the error, where a device fails.
 fn signs(rt: &impl Host, client: &mut MemoryClient) -> Vec<u8> {
     let answer = signed(rt, client);
@@ -101,6 +110,7 @@ fn does(
 ) -> Vec<u8> {
     match letter {
         b'd' => declares(rt, client, notes, rest),
+        b'a' => resigns(rt, client, rest),
         b's' => signs(rt, client),
         b'r' => told_step(rt, step_on(rt, client, rest)),
         b'b' => told_step(rt, hand(rt, client, Some(rest))),
@@ -190,6 +200,35 @@ pub(crate) fn open_all(rt: &impl Host, notes: &mut Notes) -> Clients {
         given(rt, clients.push(Some(client)), "memory");
     }
     clients
+}
+
+/// A user's client in the place of one that was closed: it has the key of this number, too, and a new ledger.
+fn opened_with(
+    rt: &impl Host,
+    pinned: PublicKey,
+    number: u8,
+    count: usize,
+    parts: ClientParts,
+) -> MemoryClient {
+    let [.., before] = count.to_be_bytes();
+    let mut parts = parts;
+    let key = (later_key(rt, number, before), device_of(rt, b""));
+    given(rt, parts.keys.push(key), "memory");
+    open_parts(rt, user(rt, number), pinned, parts)
+}
+
+/// A user's client is closed, gains its next key, and is opened again.
+pub(crate) fn gains(rt: &impl Host, clients: &mut Clients, notes: &mut Notes, number: u8) {
+    let place = found(rt, clients.get_mut(usize::from(number)), "a user");
+    let client = found(rt, place.take(), "a client");
+    let count = client.key_count();
+    for (letter, told) in [(b'k', b"k"), (b'n', b"y")] {
+        let row = row_of(rt, number, NEVER, letter, b"");
+        notes.add(rt, number, row, joined(rt, &[told]));
+    }
+    let client = opened_with(rt, notes.pinned(rt), number, count, client.close());
+    is_opened(rt, notes, number, &client);
+    put_in(place, Some(client));
 }
 
 /// How many calls an opening makes of the device of a journal of this size, which tells this phase of the first

@@ -1,9 +1,9 @@
 //! Tests of whole runs: what clients answer that stand alone, `fork_consistency::run` answers to the same steps, over
-//! crashes and over devices that fail, too; a run in which the premises of fork consistency hold, beside the worlds of
-//! its lines; one in which a user's key is stolen, and what is still others' own there; what scripts print, byte for
-//! byte; a small world in every order of its steps; and what a server comes to that lies: each lie, sixty scripts with
-//! the rule by which each is refused, that in two scripts no two texts share a digest, and that it answers as the
-//! honest server where it doesn't lie.
+//! crashes, over devices that fail, and where users get further keys; a run in which the premises of fork consistency
+//! hold, beside the worlds of its lines; one in which a user's key is stolen, and what is still others' own there; what
+//! scripts print, byte for byte; a small world in every order of its steps; and what a server comes to that lies: each
+//! lie, sixty scripts with the rule by which each is refused, that in two scripts no two texts share a digest, and that
+//! it answers as the honest server where it doesn't lie.
 #![tactic(auto)]
 
 #[cfg(test)]
@@ -54,6 +54,8 @@ mod planning;
 mod premises;
 #[cfg(test)]
 mod refuted;
+#[cfg(test)]
+mod renewed_runs;
 #[cfg(test)]
 mod renewed_scripts;
 #[cfg(test)]

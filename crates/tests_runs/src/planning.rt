@@ -1,7 +1,7 @@
 //! Changes of a client's next operation, written as bytes.
 
 use layout::{Group, User};
-use lms_sign::PublicKey;
+use lms_sign::{PrivateKey, PublicKey};
 use std::alloc::Global;
 use tests_aids::numbers::{entry, i_number, name, principal};
 use tests_aids::texts::key_of;
@@ -26,6 +26,22 @@ pub(crate) fn keys(rt: &impl Aided, count: u8) -> Vec<PublicKey> {
         given(rt, keys.push(key_of(rt, number).public()), "memory");
     }
     keys
+}
+
+/// How far apart the bytes are of which the identifiers of a user's keys are made.
+const KEY_STEP: u8 = 64;
+
+/// The key that a user of a run gains after so many others.
+pub(crate) fn later_key(rt: &impl Aided, user: u8, before: u8) -> PrivateKey<Global> {
+    let identifier = user.wrapping_add(KEY_STEP.wrapping_mul(before));
+    let key = PrivateKey::from_seed(rt.alloc(), [user; 32], [identifier; 16]);
+    given(rt, key, "memory")
+}
+
+/// Adds the key that a user gains first.
+pub(crate) fn add_second_key(rt: &impl Aided, keys: &mut Vec<PublicKey>, user: u8) {
+    let key = later_key(rt, user, 1).public();
+    given(rt, keys.push(key), "memory");
 }
 
 /// The parts of a text between which this byte stands. The last one isn't empty.
@@ -58,7 +74,12 @@ fn action_of(rt: &impl Aided, planned: &mut Planned, letter: u8, rest: &[u8]) ->
     }
 }
 
-/// The change of a row, where these are the keys of the users from 0 on. A file is laid out.
+/// The key at this place of these.
+fn key_in(rt: &impl Aided, keys: &[PublicKey], place: u8) -> PublicKey {
+    *found(rt, keys.get(usize::from(place)), "a key")
+}
+
+/// The change of a row, where these are the keys of the users from 0 on, and then others. A file is laid out.
 fn change_of(
     rt: &impl Aided,
     planned: &mut Planned,
@@ -67,8 +88,12 @@ fn change_of(
 ) -> Change<Global> {
     match row {
         [b'u', number] => {
-            let key = found(rt, keys.get(usize::from(*number)), "a key");
-            Change::of_table(TableChange::AddUser(user(rt, *number), *key))
+            let key = key_in(rt, keys, *number);
+            Change::of_table(TableChange::AddUser(user(rt, *number), key))
+        }
+        [b'k', number, place] => {
+            let key = key_in(rt, keys, *place);
+            Change::of_table(TableChange::SetKey(user(rt, *number), key))
         }
         [b'm', of, number] => {
             Change::of_table(TableChange::AddMember(group(rt, *of), user(rt, *number)))
@@ -85,11 +110,12 @@ fn change_of(
     }
 }
 
-/// Changes, where these are the keys of the users from 0 on. They are told as bytes, with semicolons between them, and
-/// each begins with a letter.
+/// Changes, where these are the keys of the users from 0 on, and then others. They are told as bytes, with semicolons
+/// between them, and each begins with a letter.
 ///
-/// To the table of principals: `u` and a user, who is listed; `m`, a group and a user, who becomes a member; `d`, a
-/// group and a user, who is a member no more.
+/// To the table of principals: `u` and a user, who is listed; `k`, a user and the place of a key among these, which the
+/// user has from then on, too; `m`, a group and a user, who becomes a member; `d`, a group and a user, who is a member
+/// no more.
 ///
 /// At an i-number: the letter, the principal, the i-number, each in one byte; then for `f` the text of a file that is
 /// made, for `p` that of one that is put; nothing for `r`, where it is removed; for `l` the target's principal and

@@ -78,6 +78,13 @@ impl Servers {
         payload_of(rt, server, call, text, Status::Ok)
     }
 
+    /// The honest server of this place declines the signature of a certificate.
+    pub(crate) fn declines(&mut self, rt: &impl Aided, place: usize, certificate: &[u8]) {
+        let server = found(rt, self.honest.get_mut(place), "a server");
+        let payload = payload_of(rt, server, b'u', certificate, Status::BadSignature);
+        check(rt, payload.is_empty(), "no payload");
+    }
+
     /// The server that can lie answers so: the payload.
     pub(crate) fn lying_asked(&mut self, rt: &impl Aided, call: u8, text: &[u8]) -> Vec<u8> {
         payload_of_lying(rt, &mut self.lying, call, text, Status::Ok)

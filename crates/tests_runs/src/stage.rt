@@ -4,8 +4,9 @@
 //! One step a letter: `d`, the user declares an operation without changes; `p`, that is placed; `a`, its client accepts
 //! the reply; `j`, it judges the reply; `s`, it signs; `c`, the structure is committed; `e`, the client is told so
 //! without a server; `r` and `w`, the client crashes, which leaves what is synced or all that is written, and is opened
-//! again; `q` and `z`, the server that can lie places the operation or commits the structure. `F`, the user goes to a
-//! new server, which has answered the same calls so far as the first one.
+//! again; `q` and `z`, the server that can lie places the operation or commits the structure; `x`, the server declines
+//! the certificate's signature; `G`, the client gains its next key. `F`, the user goes to a new server, which has
+//! answered the same calls so far as the first one.
 //!
 //! Rows that go on after the letter:
 //!
@@ -13,6 +14,7 @@
 //! - `A`: a letter, `d` or `s`, and after how many calls devices are to fail in it, so late that none does;
 //! - `X`: a letter, `d` or `s`, a device, `l` or `j`, and which of its calls fails; what a crash leaves then, `s` or
 //!   `w`;
+//! - `R`: the number of a key, in a byte, by which the client signs its certificate once more;
 //! - `L`: a principal and an i-number that are looked at; `T`: the lost changes of the view;
 //! - `H`: a reply by hand (`Notes::is_answered`);
 //! - `B`: `u` for a certificate or `c` for a structure; which one: `-`, no bytes, `l`, the last one, `x`, that one
@@ -22,7 +24,9 @@
 //! - `=`: the last answer; `~`: its beginning.
 
 use crate::acts::{NEVER, answers_of};
-use crate::clients::{Clients, acts, acts_failing, goes_through, has_lost, open_all, restarts};
+use crate::clients::{
+    Clients, acts, acts_failing, gains, goes_through, has_lost, open_all, restarts,
+};
 use crate::notes::{Notes, Place, latest, new_notes, place_in};
 use crate::planning::user;
 use crate::servers::{Servers, new_servers};
@@ -75,6 +79,7 @@ fn client_does(rt: &impl Host, clients: &mut Clients, notes: &mut Notes, number:
         b'e' => does(rt, clients, notes, number, (b'c', b'c'), b""),
         b'r' => restarts(rt, clients, notes, number, b's', *NEVER),
         b'w' => restarts(rt, clients, notes, number, b'w', *NEVER),
+        b'G' => gains(rt, clients, notes, number),
         _ => rt.fail("no letter"),
     }
 }
@@ -98,6 +103,7 @@ fn server_does(
             &mut place.reply,
             servers.lying_asked(rt, b'u', &place.update),
         ),
+        b'x' => servers.declines(rt, place.server, &place.update),
         b'F' => place.server = servers.fork(rt, pinned),
         b'c' | b'z' => {
             let text = found(rt, place.structures.last(), "a structure");
@@ -253,6 +259,7 @@ fn is_row_of_clients(
             );
             check(rt, notes.last().first() != Some(&b'e'), "no device fails");
         }
+        [b'R', key] => does(rt, clients, notes, number, (b'a', b'b'), &[*key]),
         [b'X', letter, device, call, left] => {
             goes_on_in_vain(rt, clients, notes, number, [*letter, *device, *call, *left]);
         }
@@ -285,7 +292,12 @@ fn does_row(
 /// The clients of users 0 to 2 are opened, and what the script says happens. Then `run` carries all their steps out,
 /// and answers each as the clients did.
 pub(crate) fn plays(rt: &impl Host, script: &[&[u8]]) -> Notes {
-    let mut notes = new_notes(rt);
+    plays_on(rt, new_notes(rt), script)
+}
+
+/// The same from notes in which nothing was done yet.
+pub(crate) fn plays_on(rt: &impl Host, notes: Notes, script: &[&[u8]]) -> Notes {
+    let mut notes = notes;
     let mut clients = open_all(rt, &mut notes);
     let mut servers = new_servers(rt, notes.pinned(rt));
     for row in script {
