@@ -407,18 +407,38 @@ pub(crate) fn script_of(rt: &impl ScriptHost, tables: &[&str]) -> (Vec<u8>, Vec<
     (script, lines)
 }
 
+/// The commands of a table.
+pub(crate) fn commands_of<'a>(rt: &impl ScriptHost, table: &'a str) -> Vec<&'a str> {
+    let mut commands = Vec::new(rt.alloc());
+    for row in table.lines() {
+        let (command, _) = row.split_once(ARROW).unwrap_or((row, ""));
+        commands.push(command).expect(rt, "memory");
+    }
+    commands
+}
+
 /// Fails the test where two texts differ.
 fn check_text(rt: &impl ScriptHost, found: &[u8], wanted: &[u8]) {
     assert!(rt; found == wanted, "{found:?} is not {wanted:?}");
 }
 
+/// What the script prints where a client's cache may have so many blocks.
+fn printed_at(rt: &impl ScriptHost, capacity: usize, script: &[u8]) -> Vec<u8> {
+    let mut reader = Cursor::new(script);
+    let mut writer = Vec::new(rt.alloc());
+    play(rt, rt.alloc(), capacity, &mut reader, &mut writer).expect(rt, "lines");
+    writer
+}
+
+/// What the script prints.
+pub(crate) fn printed(rt: &impl ScriptHost, script: &[u8]) -> Vec<u8> {
+    printed_at(rt, CACHED_AT_FIRST, script)
+}
+
 /// The script prints these lines, whichever of these numbers of blocks a client's cache may have.
 fn prints_at(rt: &impl ScriptHost, capacities: &[usize], script: &[u8], lines: &[u8]) {
     for capacity in capacities {
-        let mut reader = Cursor::new(script);
-        let mut writer = Vec::new(rt.alloc());
-        play(rt, rt.alloc(), *capacity, &mut reader, &mut writer).expect(rt, "lines");
-        check_text(rt, &writer, lines);
+        check_text(rt, &printed_at(rt, *capacity, script), lines);
     }
 }
 
