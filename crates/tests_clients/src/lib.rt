@@ -27,6 +27,8 @@ mod long_table;
 #[cfg(test)]
 mod needed_blocks;
 #[cfg(test)]
+mod old_files;
+#[cfg(test)]
 mod operations;
 #[cfg(test)]
 mod other_users;

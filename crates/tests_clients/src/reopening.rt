@@ -154,6 +154,27 @@ pub(crate) fn open_with_keys(
     put_in(slot, Some(open_parts(rt, user, first_key(rt), parts)));
 }
 
+/// A client is closed, and opened again by its key over a ledger and a journal of these texts.
+pub(crate) fn open_over_files(
+    rt: &impl Host,
+    slot: &mut Option<MemoryClient>,
+    by_hand: &ByHand,
+    user: u8,
+    files: &[&[u8]],
+) {
+    let [ledger, journal] = files else {
+        panic!(rt; "not two files");
+    };
+    let client = slot.take().expect(rt, "a client");
+    let kept = Kept {
+        key: key_kept(closed(rt, client)),
+        ledger: device_of(rt, &text_of(rt, by_hand, &[*ledger])),
+        journal: device_of(rt, &text_of(rt, by_hand, &[*journal])),
+    };
+    let user = User::new(user).expect(rt, "a user");
+    put_in(slot, Some(open_over(rt, user, first_key(rt), kept)));
+}
+
 /// In which phase a client is, and the number of its operation: the text of a letter is what it has declared or signed.
 pub(crate) fn now(
     rt: &impl Host,

@@ -29,7 +29,7 @@
 //!   each in a byte, and how many leaves of the newest aren't used.
 //! - `restart USER closed`: it is closed, and opened again. Other words say what is left of it, and what changes then.
 //!   `restart USER gains KEY LEDGER`: it has this key more, with a ledger of this text, or an empty one; `restart USER
-//!   loses`: its newest key is gone.
+//!   loses`: its newest key is gone. `restart USER holds LEDGER JOURNAL`: it is opened over files of these texts.
 //! - `look USER OWNER NUMBER`, `what USER OWNER NUMBER`, `vacant USER OWNER FIRST LAST`: a look with the stored blocks,
 //!   at what stands there, at its kind, and for the least i-number at which nothing stands.
 //!
@@ -41,7 +41,7 @@
 //! `yield 0` tells how many events the first one has made.
 
 use crate::acts::{Stage, client_acts};
-use crate::reopening::{open_with_keys, restart};
+use crate::reopening::{open_over_files, open_with_keys, restart};
 use crate::words::{
     ByHand, byte, key_in, letter_of, makes, nothing_by_hand, put_text, short, text_at, text_of,
     words_of,
@@ -251,10 +251,14 @@ fn actor_acts(
         b'y' => return events(rt, servers),
         b'r' => {
             let slot = slot_of(rt, users, user);
-            if let [b"gains" | b"loses", key @ ..] = rest {
-                open_with_keys(rt, slot, &stage.by_hand, user, key);
-            } else {
-                return restart(rt, slot, &mut stage.by_hand, user, rest);
+            match rest {
+                [b"gains" | b"loses", key @ ..] => {
+                    open_with_keys(rt, slot, &stage.by_hand, user, key);
+                }
+                [b"holds", files @ ..] => {
+                    open_over_files(rt, slot, &stage.by_hand, user, files);
+                }
+                _ => return restart(rt, slot, &mut stage.by_hand, user, rest),
             }
         }
         _ => {
