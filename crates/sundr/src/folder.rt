@@ -156,6 +156,14 @@ fn read_seed(rt: &HostRuntime, folder: &str, number: u8) -> Result<Option<Seed>,
     Ok(Some(Seed { number, seed, id }))
 }
 
+/// Refuses a seed whose key has the identifier of one before it: leaves of the two would sign with one another's.
+fn check_identifier(seeds: &[Seed], seed: &Seed) -> Result<(), Hindrance> {
+    if seeds.iter().any(|before| before.id == seed.id) {
+        return Err(Hindrance::NoKeys(FolderFile::Seed(seed.number), FileFault::Twin));
+    }
+    Ok(())
+}
+
 /// How many seeds of a user's folder are read: user 0 has one key for good.
 fn most_seeds(user: User) -> u8 {
     if user.get() == 0 { 1 } else { MOST_KEYS }
@@ -170,7 +178,10 @@ pub(crate) fn read_seeds(
     let mut seeds = Vec::new(rt.alloc());
     for number in 0..most_seeds(user) {
         match read_seed(rt, folder, number)? {
-            Some(seed) => seeds.push(seed)?,
+            Some(seed) => {
+                check_identifier(&seeds, &seed)?;
+                seeds.push(seed)?;
+            }
             None => break,
         }
     }

@@ -88,6 +88,10 @@ const SEEDLESS: &str =
 const OF_OTHER_SEED: &str =
     "not whole, or not of the seed beside it: are files of two folders mixed?";
 
+/// What is told of a seed that was copied.
+const TWIN: &str =
+    "has the identifier of a seed before it, so that both would sign with the same leaves: move this file and its ledger out of the folder";
+
 /// What is at fault with a file.
 #[derive(Clone, Copy, Debug)]
 pub(crate) enum FileFault {
@@ -111,6 +115,8 @@ pub(crate) enum FileFault {
     Other,
     /// It isn't a seed with its identifier.
     NoSeed,
+    /// It has the identifier of another seed.
+    Twin,
     /// The system gives no random bytes for it.
     NoRandom,
     /// It isn't a public key.
@@ -174,6 +180,7 @@ impl FileFault {
             FileFault::Full => "no space left on the disk",
             FileFault::Other => "can't be read or written",
             FileFault::NoSeed => "not a seed of 48 bytes",
+            FileFault::Twin => TWIN,
             FileFault::NoRandom => "the system gives no random bytes for it",
             FileFault::NoKey => "not a public key of 56 bytes",
             FileFault::TooOpen => "permissions are too open: chmod 600 makes it its owner's alone",
