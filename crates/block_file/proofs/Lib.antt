@@ -1,0 +1,9 @@
+pub mod Appended
+pub mod Chains
+pub mod Found
+pub mod Heads
+pub mod Indexed
+pub mod Kept
+pub mod Lives
+pub mod Maps
+pub mod Options
