@@ -1,0 +1,128 @@
+//! Crashes of files of blocks: what was synced is found, after each failed call, whatever is left of what wasn't.
+
+use crate::blocks::{ABC, NOTHING, ROOM, is_found, opened, put};
+use crate::storages::{Host, device_of};
+use block_file::{BlockError, BlockFile};
+use leaf_ledger::{Device, MemoryDevice};
+use std::alloc::Global;
+use storage::DeviceStorage;
+use tests_aids::crashes::left_by_crash;
+
+/// Puts a text and then another, each with a sync after it, until a call of the device fails. Tells how many were
+/// synced.
+fn put_both(rt: &impl Host, device: MemoryDevice<Global>) -> (usize, MemoryDevice<Global>) {
+    let mut blocks = match BlockFile::open(rt.alloc(), DeviceStorage::new(device), ROOM) {
+        Ok(blocks) => blocks,
+        Err((error, storage)) => {
+            assert!(rt; error == BlockError::Device);
+            return (0, storage.close());
+        }
+    };
+    let mut synced = 0usize;
+    for text in [b"abc".as_slice(), b""] {
+        if blocks.usable() && blocks.put(text).is_ok() && blocks.usable() && blocks.sync().is_ok() {
+            synced = synced.saturating_add(1);
+        }
+    }
+    (synced, blocks.close().close())
+}
+
+/// How many calls that makes of an empty file: a sync and the size, and of each text a write and a sync.
+const CALLS: u64 = 2 + 2 * 2;
+
+/// How many calls an open makes of a file with both blocks: a sync, the size and two heads.
+const LATER_CALLS: u64 = 2 + 2;
+
+/// In how many ways a crash leaves an extent: old, new, or filled with one of four bytes; and what lies past the old
+/// end whole, or cut short by a byte or by half.
+const WAYS: usize = 6 * 3;
+
+/// The device after a crash that leaves what wasn't synced in this way.
+fn crashed(rt: &impl Host, device: MemoryDevice<Global>, way: usize) -> MemoryDevice<Global> {
+    let mut left = left_by_crash(rt.alloc(), &device, way % 6).expect(rt, "memory");
+    let least = device.synced_text().len();
+    let more = left.len().saturating_sub(least);
+    let cut = match way / 6 {
+        0 => 0,
+        1 => 1,
+        _ => more / 2,
+    };
+    left.truncate(least.saturating_add(more.saturating_sub(cut)));
+    match device.crash(left) {
+        Ok(device) => device,
+        Err((error, _)) => panic!(rt; "{error}"),
+    }
+}
+
+/// An empty file after this call failed, and how many texts were synced before.
+fn after_puts(rt: &impl Host, failing: u64) -> (usize, MemoryDevice<Global>) {
+    let mut device = device_of(rt, b"");
+    device.fail_after(failing);
+    put_both(rt, device)
+}
+
+/// So many of the texts are found, and both where they are put once more.
+fn has_texts(rt: &impl Host, device: MemoryDevice<Global>, synced: usize) {
+    let mut blocks = opened(rt, DeviceStorage::new(device), ROOM);
+    if synced > 0 {
+        is_found(rt, &mut blocks, &ABC, Some(b"abc"));
+    }
+    if synced > 1 {
+        is_found(rt, &mut blocks, &NOTHING, Some(b""));
+    }
+    put(rt, &mut blocks, b"abc", &ABC);
+    put(rt, &mut blocks, b"", &NOTHING);
+    is_found(rt, &mut blocks, &ABC, Some(b"abc"));
+    is_found(rt, &mut blocks, &NOTHING, Some(b""));
+}
+
+#[test]
+fn what_was_synced_is_found(rt: HostRuntime) {
+    let mut cases: usize = 0;
+    for failing in 0..=CALLS {
+        for way in 0..WAYS {
+            let (synced, device) = after_puts(&rt, failing);
+            assert!(rt;
+                synced == (failing.saturating_sub(2) / 2) as usize,
+                "call {failing}"
+            );
+            has_texts(&rt, crashed(&rt, device, way), synced);
+            cases = cases.saturating_add(1);
+        }
+    }
+    assert_eq!(rt; cases, 126);
+}
+
+/// After a failed call and a crash, a call of the next opening fails, and a crash comes again.
+fn opened_in_vain(rt: &impl Host, failing: u64, later: u64, way: usize) {
+    let (synced, device) = after_puts(rt, failing);
+    let mut left = crashed(rt, device, way);
+    let faults = left.faults();
+    left.fail_after(later);
+    let device = match BlockFile::open(rt.alloc(), DeviceStorage::new(left), ROOM) {
+        Ok(blocks) => blocks.close().close(),
+        Err((error, storage)) => {
+            assert!(rt; error == BlockError::Device);
+            storage.close()
+        }
+    };
+    let failed = device.faults() > faults;
+    assert!(rt; failed || later > 1, "calls {failing}, {later}, way {way}");
+    let is_told = failing < CALLS || failed == (later < LATER_CALLS);
+    assert!(rt; is_told, "calls {failing}, {later}, way {way}");
+    has_texts(rt, crashed(rt, device, way), synced);
+}
+
+#[test]
+fn each_call_of_a_later_open_fails(rt: HostRuntime) {
+    let mut cases: usize = 0;
+    for failing in 0..=CALLS {
+        for later in 0..=LATER_CALLS {
+            for way in 0..WAYS {
+                opened_in_vain(&rt, failing, later, way);
+                cases = cases.saturating_add(1);
+            }
+        }
+    }
+    assert_eq!(rt; cases, 630);
+}
