@@ -4,7 +4,7 @@ use anyhow::anyhow;
 use client_verify::{Client, ClientError, Parts};
 use commands::{Answer, Command};
 use file_session::Session;
-use layout::{Memory, User, beside, digest, let_go, put_in};
+use layout::{Memory, User, digest, let_go, put_in};
 use leaf_ledger::MemoryDevice;
 use lms_sign::PrivateKey;
 use std::alloc::Global;
@@ -61,6 +61,50 @@ fn open(alloc: Global, kept: Kept) -> Result<MemoryClient, ClientError> {
     }
 }
 
+/// User 0's client before its first operation.
+fn new_client(alloc: Global) -> Option<MemoryClient> {
+    let kept = nothing_yet(alloc).ok()?;
+    open(alloc, kept).ok()
+}
+
+/// What is kept of a client that is closed.
+fn kept_of(client: MemoryClient) -> Option<Kept> {
+    let (key, ledger, journal) = client.close().last()?;
+    Some(Kept {
+        key,
+        ledger,
+        journal,
+    })
+}
+
+/// The client, opened anew over what it keeps, so that it holds no block.
+fn reopened(alloc: Global, client: MemoryClient) -> Option<MemoryClient> {
+    let kept = kept_of(client)?;
+    open(alloc, kept).ok()
+}
+
+/// The client beside the transport, which is let go where there is no client.
+fn both_of<T: Drop>(client: Option<MemoryClient>, transport: T) -> Option<(MemoryClient, T)> {
+    match client {
+        Some(client) => Some((client, transport)),
+        None => {
+            let_go(transport);
+            None
+        }
+    }
+}
+
+/// What a session answers to a command, and its client and its transport after it.
+fn answered<T: Transport<Global> + Drop>(
+    alloc: Global,
+    (client, transport): (MemoryClient, T),
+    command: &Command<'_>,
+) -> (Answer<Global>, (MemoryClient, T)) {
+    let mut session = Session::new(alloc, client, transport);
+    let answer = session.run(command);
+    (answer, session.close())
+}
+
 /// Whether a command was carried out, and read these bytes, if it reads any.
 fn is_told(answer: &Answer<Global>, read: Option<&[u8]>) -> bool {
     match (answer, read) {
@@ -73,47 +117,28 @@ fn is_told(answer: &Answer<Global>, read: Option<&[u8]>) -> bool {
 impl<T: Transport<Global> + Drop> Home<T> {
     /// Before user 0's first operation.
     pub(crate) fn new(alloc: Global, transport: T) -> Home<T> {
-        let mut home = Home { both: None };
-        if let Ok((transport, kept)) = beside(transport, nothing_yet(alloc))
-            && let Ok((transport, client)) = beside(transport, open(alloc, kept))
-        {
-            put_in(&mut home.both, Some((client, transport)));
+        Home {
+            both: both_of(new_client(alloc), transport),
         }
-        home
     }
 
     /// Opens the client anew over what it keeps, so that it holds no block.
     pub(crate) fn reopen(&mut self, alloc: Global) {
-        if let Some((client, transport)) = self.both.take()
-            && let Some((key, ledger, journal)) = client.close().last()
-            && let Ok((transport, client)) = beside(
-                transport,
-                open(
-                    alloc,
-                    Kept {
-                        key,
-                        ledger,
-                        journal,
-                    },
-                ),
-            )
-        {
-            put_in(&mut self.both, Some((client, transport)));
+        if let Some((client, transport)) = self.both.take() {
+            put_in(&mut self.both, both_of(reopened(alloc, client), transport));
         }
     }
 
     /// Carries a command out that reads these bytes, if it reads any.
     pub(crate) fn run(&mut self, alloc: Global, command: &Command<'_>, read: Option<&[u8]>) {
-        let Some((client, transport)) = self.both.take() else {
-            return;
-        };
-        let mut session = Session::new(alloc, client, transport);
-        let answer = session.run(command);
-        put_in(&mut self.both, Some(session.close()));
-        if !is_told(&answer, read) {
-            let_go(self.both.take());
+        if let Some(both) = self.both.take() {
+            let (answer, both) = answered(alloc, both, command);
+            put_in(&mut self.both, Some(both));
+            if !is_told(&answer, read) {
+                let_go(self.both.take());
+            }
+            let_go(answer);
         }
-        let_go(answer);
     }
 
     /// The transport, unless something failed.

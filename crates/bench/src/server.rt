@@ -183,8 +183,12 @@ fn times_of<R: Host>(rt: &R, visitors: &mut [Visitor]) -> Result<Pairs> {
 }
 
 /// The users up to this number come over a connection each. User 0 lists the others, and these are timed.
-fn come<R: Host>(rt: &R, address: SocketAddr, last: u8) -> Result<Pairs> {
-    let mut visitors = Vec::new(rt.alloc());
+fn times_among<R: Host>(
+    rt: &R,
+    address: SocketAddr,
+    last: u8,
+    visitors: &mut Vec<Visitor>,
+) -> Result<Pairs> {
     for number in 0..=last {
         visitors.push(Visitor::new(rt, address, number)?)?;
     }
@@ -194,7 +198,13 @@ fn come<R: Host>(rt: &R, address: SocketAddr, last: u8) -> Result<Pairs> {
     for other in others.iter() {
         superuser.list(other);
     }
-    let pairs = times_of(rt, others);
+    times_of(rt, others)
+}
+
+/// The same for users who are let go then.
+fn come<R: Host>(rt: &R, address: SocketAddr, last: u8) -> Result<Pairs> {
+    let mut visitors = Vec::new(rt.alloc());
+    let pairs = times_among(rt, address, last, &mut visitors);
     let_go(visitors);
     pairs
 }

@@ -4,8 +4,8 @@ use crate::home::{Home, own_key};
 use crate::time::{now, since};
 use anyhow::{Result, anyhow};
 use client_tree::Held;
-use consistency_server::{CallKind, MemoryLog, Ordered};
-use layout::{Digest, beside};
+use consistency_server::{Answer, CallKind, MemoryLog, Ordered};
+use layout::{Digest, beside, let_go};
 use std::alloc::Global;
 use std::rt::Clock;
 use std::time::Duration;
@@ -59,6 +59,14 @@ fn new_others(alloc: Global, count: u8) -> Result<Vec<PlainUser>> {
     Ok(others)
 }
 
+/// A copy of an answer's payload, where its status is Ok.
+fn payload_of(alloc: Global, answer: &Answer<Global>) -> Result<Vec<u8>> {
+    match answer.status() {
+        Status::Ok => Ok(Vec::from_slice(alloc, answer.payload())?),
+        status => Err(anyhow!("the server answers {status:?}")),
+    }
+}
+
 impl Server {
     /// A server that knows user 0's key.
     fn new(alloc: Global) -> Result<Server> {
@@ -74,10 +82,9 @@ impl Server {
     fn call(&mut self, kind: CallKind, text: &[u8]) -> Result<Vec<u8>> {
         let mut log = MemoryLog::new(self.alloc)?;
         let answer = self.ordered.answer(&mut log, kind, text, None);
-        match answer.status() {
-            Status::Ok => Ok(Vec::from_slice(self.alloc, answer.payload())?),
-            status => Err(anyhow!("the server answers {status:?}")),
-        }
+        let payload = payload_of(self.alloc, &answer);
+        let_go((answer, log));
+        payload
     }
 
     /// Stores a block. Its digest is known to who stores it, and isn't answered.
