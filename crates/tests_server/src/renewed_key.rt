@@ -1,10 +1,10 @@
 //! A connection whose user got another key: its calls are verified once each from the second one on, as those of a
-//! connection that began afterwards.
+//! connection that began afterwards. Both take little longer than their verifications alone.
 
 use crate::requests::{joined, put_frame};
 use crate::serving::{Host, serve_beside};
 use crate::users::with_users;
-use lms_sign::{Leaf, PrivateKey, PublicKey, sign};
+use lms_sign::{Leaf, PrivateKey, PublicKey, sign, verify};
 use server_workers::OpenGate;
 use std::alloc::Global;
 use std::io::{Read, Write};
@@ -32,17 +32,31 @@ fn key_of<R: Host>(rt: &R, byte: u8) -> PrivateKey<Global> {
     PrivateKey::from_seed(rt.alloc(), [byte; 32], [byte; 16]).expect(rt, "memory")
 }
 
-/// So many frames of the certificate, signed by the first leaf of a key.
-fn frames<R: Host>(rt: &R, key: &PrivateKey<Global>, count: usize) -> Vec<u8> {
+/// The signature of the certificate by the first leaf of a key.
+fn signature_by<R: Host>(rt: &R, key: &PrivateKey<Global>) -> Vec<u8> {
     assert!(rt; key.has_leaf(0), "the leaf");
     let (signature, spent) = sign(key, Leaf::issue(&key.public(), 0), CERTIFICATE);
     spent.end();
-    let text = joined(rt, &[CERTIFICATE, &signature]);
+    joined(rt, &[&signature])
+}
+
+/// So many frames of the certificate with this signature.
+fn frames<R: Host>(rt: &R, signature: &[u8], count: usize) -> Vec<u8> {
+    let text = joined(rt, &[CERTIFICATE, signature]);
     let mut frames = Vec::new(rt.alloc());
     for _call in 0..count {
         put_frame(rt, &mut frames, 1, &text);
     }
     frames
+}
+
+/// How long it takes to verify the signature as often as calls are sent at once.
+fn verifying_time<R: Host>(rt: &R, key: &PublicKey, signature: &[u8]) -> Duration {
+    let start = Instant::now(rt).expect(rt, "the time");
+    for _call in 0..CALLS {
+        assert!(rt; verify(key, CERTIFICATE, signature), "it is valid");
+    }
+    start.elapsed(rt).expect(rt, "the time")
 }
 
 /// The frames are sent at once, and each is replied that its number is wrong.
@@ -80,32 +94,50 @@ fn change<R: Host>(rt: &R, kind_and_user: [u8; 2], key: &PublicKey) -> Vec<u8> {
     joined(rt, &[&[1], &kind_and_user, key.as_bytes()])
 }
 
-/// Whether the calls over the first connection take less than one and a half times as long as over the second.
-fn is_once(times: (Duration, Duration)) -> bool {
-    times.0.saturating_mul(2) < times.1.saturating_mul(3)
+/// Times that the calls take over two connections, and that their verifications take alone.
+#[derive(Clone, Copy, Debug)]
+struct Times {
+    first: Duration,
+    second: Duration,
+    alone: Duration,
 }
 
-/// The least time that the calls take over each of two connections, in rounds that alternate. What else the machine
-/// does slows a round down, and may slow one of the two down for long: so there are more rounds until both were alone.
+impl Times {
+    /// Whether the calls over each connection take less than seven quarters of what their verifications alone take. What
+    /// is verified twice takes eight quarters.
+    fn are_once(self) -> bool {
+        let most = self.alone.saturating_mul(7);
+        self.first.saturating_mul(4) < most && self.second.saturating_mul(4) < most
+    }
+}
+
+/// The least of these times, in rounds that alternate. What else the machine does slows a round down, and may slow one
+/// of them down for long: so there are more rounds until each was alone.
 fn least_times<R: Host>(
     rt: &R,
     first: &mut TcpStream,
     second: &mut TcpStream,
-    frames: &[u8],
-) -> (Duration, Duration) {
-    let mut least = (Duration::MAX, Duration::MAX);
+    (key, signature): (&PublicKey, &[u8]),
+) -> Times {
+    let frames = frames(rt, signature, CALLS);
+    let mut least = Times {
+        first: Duration::MAX,
+        second: Duration::MAX,
+        alone: Duration::MAX,
+    };
     for round in 0..MOST_ROUNDS {
-        if LEAST_ROUNDS <= round && is_once(least) {
+        if LEAST_ROUNDS <= round && least.are_once() {
             break;
         }
-        let (one, other) = (time_of(rt, first, frames), time_of(rt, second, frames));
-        least = (least.0.min(one), least.1.min(other));
+        least.first = least.first.min(time_of(rt, first, &frames));
+        least.second = least.second.min(time_of(rt, second, &frames));
+        least.alone = least.alone.min(verifying_time(rt, key, signature));
     }
     least
 }
 
-/// The first connection has user 1's old key before user 0 gives user 1 another one. Were each of its calls verified
-/// under both, they would take twice as long as those over the second connection, which began afterwards.
+/// The first connection has user 1's old key before user 0 gives user 1 another one; the second one begins afterwards.
+/// Were each of its calls verified under both keys, or twice under one, they would take twice as long.
 fn are_verified_once<R: Host>(
     rt: &R,
     old: &mut TcpStream,
@@ -116,14 +148,14 @@ fn are_verified_once<R: Host>(
     let (first, second) = (key_of(rt, 1), key_of(rt, 2));
     let listing = change(rt, [6, 1], &first.public());
     operate(rt, caller, superuser, &listing);
-    are_refused(rt, old, &frames(rt, &first, 1), 1);
+    are_refused(rt, old, &frames(rt, &signature_by(rt, &first), 1), 1);
     let renewal = change(rt, [9, 1], &second.public());
     operate(rt, caller, superuser, &renewal);
-    let by_second = frames(rt, &second, CALLS);
-    are_refused(rt, old, &by_second, CALLS);
-    are_refused(rt, new, &by_second, CALLS);
-    let times = least_times(rt, old, new, &by_second);
-    assert!(rt; is_once(times), "{times:?}");
+    let by_second = signature_by(rt, &second);
+    are_refused(rt, old, &frames(rt, &by_second, 1), 1);
+    are_refused(rt, new, &frames(rt, &by_second, 1), 1);
+    let times = least_times(rt, old, new, (&second.public(), &by_second));
+    assert!(rt; times.are_once(), "{times:?}");
 }
 
 /// Three connections of a server that user 0 and user 1 use.
