@@ -1,1 +1,4 @@
+mod OneMore
+mod Opened
+mod Reasons
 mod Replays
