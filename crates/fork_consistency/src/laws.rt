@@ -21,8 +21,8 @@ ghost use Rattle.fork_consistency.specs.Worlds.{AreWorldsIn, CanBeRead, OneWorld
 
 /// In each accepted view of a run the table of principals is that of the beginning, changed by the certificates that
 /// user 0's client released, in order, up to some number: as long as no signature of user 0's is forged, no digest
-/// collides, user 0's key has the form of a key, and no two keys of user 0's have one identifier, whoever else's keys the
-/// server has.
+/// collides, user 0's key has the form of a key, and no two keys of user 0's have one identifier, whoever else's keys
+/// the server has.
 pub fn tables_are_by_certificates()
     ensures tables { EachHonestSuper AreByCertificates }
     // So it has a text,
@@ -69,8 +69,8 @@ pub fn runs_are_fork_consistent()
 
 /// Where the server has the keys of some users, never of user 0: in each accepted view the part of each other user is
 /// that of the world of this user's own certificates, up to some number, as long as no signature of these others is
-/// forged, no digest collides, user 0's client added each of them with the user's own key, user 0's key has the form of a
-/// key, and no two keys of one of them have one identifier. With what else holds of such a view.
+/// forged, no digest collides, user 0's client added each of them with the user's own key, user 0's key has the form of
+/// a key, and no two keys of one of them have one identifier. With what else holds of such a view.
 pub fn own_parts_stand()
     ensures stand { EachRunOfOthers StandWhereStolen }
     // So it was at each moment of the run, by what had been released by then.

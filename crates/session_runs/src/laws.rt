@@ -14,8 +14,8 @@ pub fn lives_are_runs<T: Transport<A>, A: Allocator + Copy>()
 {}
 
 /// So it is fork consistent, as long as no digest collides, no signature is forged, user 0's client added each user
-/// with the user's own key, user 0's key has the form of a key, and no two keys of a user have one identifier. Of servers
-/// and transports nothing is assumed.
+/// with the user's own key, user 0's key has the form of a key, and no two keys of a user have one identifier. Of
+/// servers and transports nothing is assumed.
 pub fn sessions_are_fork_consistent<T: Transport<A>, A: Allocator + Copy>()
     ensures { EachLives T.answers AreForkConsistent }
 {}

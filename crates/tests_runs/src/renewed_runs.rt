@@ -1,6 +1,6 @@
 //! Runs in which users get further keys. What a user declared by an older key than the listed one is declined, and
-//! signed again by another key; what is pending is signed by the key under which it was placed. And an honest run with a
-//! renewal before each command in turn, which comes to what it comes to without.
+//! signed again by another key; what is pending is signed by the key under which it was placed. And an honest run with
+//! a renewal before each command in turn, which comes to what it comes to without.
 
 use crate::answers::view_in;
 use crate::here::Here;
@@ -259,8 +259,8 @@ fn come_to_the_same(rt: &impl Host, keys: &[PublicKey], before: &[Command], afte
     let _end = part_comes_to(rt, &told, rest, after);
 }
 
-/// So they do where it stands before the one of any of these places at which user 0 has no operation under way: how many
-/// places that are.
+/// So they do where it stands before the one of any of these places at which user 0 has no operation under way: how
+/// many places that are.
 fn renewed_before(rt: &impl Host, places: Range<usize>) -> usize {
     let mut keys = keys(rt, 3);
     add_second_key(rt, &mut keys, 1);

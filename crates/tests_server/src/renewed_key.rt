@@ -103,8 +103,8 @@ struct Times {
 }
 
 impl Times {
-    /// Whether the calls over each connection take less than seven quarters of what their verifications alone take. What
-    /// is verified twice takes eight quarters.
+    /// Whether the calls over each connection take less than seven quarters of what their verifications alone take.
+    /// What is verified twice takes eight quarters.
     fn are_once(self) -> bool {
         let most = self.alone.saturating_mul(7);
         self.first.saturating_mul(4) < most && self.second.saturating_mul(4) < most
