@@ -1,3 +1,4 @@
+mod Bits
 pub mod Blocks
 pub mod Places
 pub mod Schedules

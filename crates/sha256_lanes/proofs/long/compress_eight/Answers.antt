@@ -1,5 +1,5 @@
-use Rattle.std.proofs.Common.{◌≡◌, ℕ, ◌+◌, ◌*◌, List, take, drop, sym, ap, ◌∙◌, arith}
-use Rattle.sha2.specs.Sha256.{compress, hash_after}
+use Rattle.std.proofs.Common.{◌≡◌, ℕ, ◌+◌, ◌*◌, List, sym, ap, ◌∙◌, arith}
+use Rattle.sha2.specs.Sha256.{hash_after}
 use Rattle.sha256_lanes.specs.Lanes.{part}
 use Rattle.sha256_lanes.proofs.Blocks.{hashed_more}
 use Rattle.sha256_lanes.proofs.long.compress_eight.Goals as goal

@@ -1,6 +1,6 @@
 use Rattle.std.proofs.Common.{◌≡◌, ℕ, ◌+◌, ◌*◌, List, length, take, drop, sym, ap, ◌∙◌, arith}
 use Rattle.std.proofs.lemmas.List.{take_all}
-use Rattle.sha2.specs.Sha256.{compress, padding}
+use Rattle.sha2.specs.Sha256.{compress}
 use Rattle.sha256_lanes.specs.Lanes.{part}
 use Rattle.sha256_lanes.proofs.long.compress_padding.Goals as goal
 
