@@ -1,6 +1,6 @@
 //! The client signs the structure over the reply that it accepted, and takes the server's answer to it.
 
-ghost use Rattle.std.specs.Prelude.{◌<◌, ◌↔◌, ◌≡◌, ◌≢◌, ◌⊎◌, IfErr, IfOk, IfSome, IsErrOf, IsSome, None, OnErr, OnOk};
+ghost use Rattle.std.specs.Prelude.{◌<◌, ◌↔◌, ◌≡◌, ◌≢◌, ◌⊎◌, IfErr, IfOk, IfSome, IsErrOf, IsSome, None, OnErr, OnOk, Some};
 ghost use Rattle.std.specs.Prelude.{vec_capacity, vec_len};
 ghost use Rattle.std.specs.Ordering.{nat_cmp};
 ghost use Rattle.layout.specs.Ascending.{Ascends};
@@ -13,6 +13,7 @@ ghost use Rattle.client_releases.specs.Told.{HasKey, IsKeyUsedUp};
 ghost use Rattle.client_verify.specs.State.{committed, failed, named_key, next_structure, on, over, released};
 ghost use Rattle.client_verify.specs.State.{signed_over, signed_text, signer_of, signing_key};
 ghost use Rattle.checked_blocks.specs.CheckedBlocks.{LetsGo};
+ghost use Rattle.reply_check.specs.Good.{with_own};
 
 use crate::client::Client;
 use crate::structure::{Draft, draft_over};
@@ -37,6 +38,38 @@ fn named_key<A: Allocator>(user: User, pinned: &PublicKey, ready: &Ready<A>) -> 
     let vector = ready.good.lists().own().plan().vector();
     let version = vector.version_of(Principal::from(User::superuser()));
     ready.good.table().key_at(user, version)
+}
+
+/// What is signed next: the number of the key, the structure over the accepted reply, and the structures of the reply.
+#[derive(Drop)]
+struct Prepared<A: Allocator> {
+    key: usize,
+    draft: Draft<A>,
+    copies: Vec<Signed<Structure<A>>, A>,
+}
+
+/// The view of an accepted reply, of which these are the structures, with the own new one in its user's place.
+fn view_over<A: Allocator>(
+    ready: Ready<A>,
+    structures: Vec<Signed<Structure<A>>, A>,
+    own: Signed<Structure<A>>,
+) -> AcceptedView<A>
+    requires room { vec_len structures < vec_capacity structures }
+    requires ascending { Ascends nat_cmp user_of None structures.items }
+    ensures { result ≡ record {
+      lists = ready.lists;
+      table = ready.table;
+      structures = with_own own structures.items;
+      lost = ready.lost;
+      looking = None;
+    } }
+{
+    AcceptedView {
+        good: ready.good,
+        structures: with_own(structures, own),
+        lost: ready.lost,
+        looking: None,
+    }
 }
 
 impl<L: Device, J: Device, A: Allocator + Copy> Client<L, J, A> {
@@ -79,6 +112,104 @@ impl<L: Device, J: Device, A: Allocator + Copy> Client<L, J, A> {
             ready.good.lists().own().plan(),
         )?;
         Ok((draft, copies))
+    }
+
+    /// What is signed next: the key, which has a free leaf, and the structure over the accepted reply. All growths are
+    /// here.
+    fn prepared(&self) -> Result<Prepared<A>, ClientError>
+        requires { IsSome self.now.accepted }
+        ensures signer { IfSome self.now.accepted (λ r. IfOk result (λ p. Some p.key ≡ signer_of self.now r)) }
+        ensures has { IfOk result (λ p. HasKey p.key (released self.now)) }
+        ensures free { IfOk result (λ p. IsKeyUsedUp p.key (released self.now) → ⊥) }
+        ensures structure { IfSome self.now.accepted
+            (λ r. IfOk result (λ p. p.draft.structure ≡ next_structure self.now r)) }
+        ensures shown { IfOk result (λ p. p.draft.shown ≡ p.draft.structure) }
+        ensures text { IfOk result (λ p. p.draft.text ≡ structure.spell p.draft.structure) }
+        ensures fits { IfOk result (λ p. structure.Fits p.draft.structure) }
+        ensures structures { IfSome self.now.accepted (λ r. IfOk result (λ p. p.copies.items ≡ r.lists.structures)) }
+        ensures room { IfOk result (λ p. vec_len p.copies < vec_capacity p.copies) }
+        ensures ascending { IfOk result (λ p. Ascends nat_cmp user_of None p.copies.items) }
+        ensures no_key { IfSome self.now.accepted
+            (λ r. IsErrOf result ClientError.NoKey ↔ (signer_of self.now r ≡ None)) }
+        ensures no_leaf { IfSome self.now.accepted (λ r. IsErrOf result ClientError.NoLeaf
+            ↔ HasKey (signing_key self.now r) (released self.now)
+            × IsKeyUsedUp (signing_key self.now r) (released self.now)) }
+        ensures own { IfSome self.now.accepted
+            (λ r. IsErrOf result ClientError.NoKey ⊎ HasKey (signing_key self.now r) (released self.now)) }
+        ensures only { IfErr result (λ e. (e ≢ ClientError.Device) × (e ≢ ClientError.NoNumber)
+            × (e ≢ ClientError.Foreign) × (e ≢ ClientError.Damaged)) }
+    {
+        let Some(key) = self.signer_of() else {
+            return Err(ClientError::NoKey);
+        };
+        if !self.releases.has_free_leaf(key) {
+            return Err(ClientError::NoLeaf);
+        }
+        match self.draft() {
+            Ok((draft, copies)) => Ok(Prepared { key, draft, copies }),
+            Err(_) => Err(ClientError::Memory),
+        }
+    }
+
+    /// Signs what was prepared over the accepted reply. It takes no memory, and fails by the devices alone.
+    fn sign_prepared(&mut self, prepared: Prepared<A>) -> Result<Vec<u8, A>, ClientError>
+        requires accepted { IsSome self.old.accepted }
+        requires signer { IfSome self.old.accepted (λ r. Some prepared.key ≡ signer_of self.old r) }
+        requires has { HasKey prepared.key (released self.old) }
+        requires free { IsKeyUsedUp prepared.key (released self.old) → ⊥ }
+        requires structure { IfSome self.old.accepted (λ r. prepared.draft.structure ≡ next_structure self.old r) }
+        requires shown { prepared.draft.shown ≡ prepared.draft.structure }
+        requires text { prepared.draft.text ≡ structure.spell prepared.draft.structure }
+        requires fits { structure.Fits prepared.draft.structure }
+        requires structures { IfSome self.old.accepted (λ r. prepared.copies.items ≡ r.lists.structures) }
+        requires room { vec_len prepared.copies < vec_capacity prepared.copies }
+        requires ascending { Ascends nat_cmp user_of None prepared.copies.items }
+        ensures signed { OnOk result (IfSome self.old.accepted (λ r. (leaf : LeafNumber)
+            × IsKept leaf (structure_record (signed_text self.old leaf r))
+            (under (signing_key self.old r) self.old.devices) (under (signing_key self.old r) self.new.devices)
+            × (self.new ≡ over self.new.blocks (on self.new.devices (signed_over self.old leaf r))))) }
+        ensures gone { OnOk result (LetsGo self.old.blocks self.new.blocks) }
+        ensures text { IfOk result (λ text. text.items ≡ self.new.text) }
+        ensures any_moment { IfSome self.old.accepted (λ r. (leaf : LeafNumber)
+            → IsLeastFree (ledger_at (signing_key self.old r) self.old.devices).file.now.text leaf
+            → AnyMoment leaf (structure_record (signed_text self.old leaf r))
+            (under (signing_key self.old r) self.old.devices) (under (signing_key self.old r) self.new.devices)) }
+        ensures tried { IfSome self.old.accepted
+            (λ r. OnErr result (IsTried (λ leaf. structure_record (signed_text self.old leaf r))
+            (under (signing_key self.old r) self.old.devices) (under (signing_key self.old r) self.new.devices))) }
+        ensures rose { IfSome self.old.accepted (λ r. OnErr result (OneHasRisen
+            (under (signing_key self.old r) self.old.devices) (under (signing_key self.old r) self.new.devices))) }
+        ensures others { IfSome self.old.accepted
+            (λ r. OthersStay (signing_key self.old r) self.old.devices self.new.devices) }
+        ensures fits { IfSome self.old.accepted (λ r. structure.Fits (next_structure self.old r)) }
+        ensures device { IfErr result (λ e. e ≡ ClientError.Device) }
+        ensures err { OnErr result (self.new ≡ on self.new.devices (failed self.old)) }
+    {
+        self.releases.type_invariant();
+        let Prepared { key, draft, copies } = prepared;
+        let _size = self.releases.key(key).as_bytes();
+        let ready = self.progress.take_accepted();
+        let Draft {
+            structure,
+            shown,
+            text,
+        } = draft;
+        match self.releases.sign(key, structure, text) {
+            Ok((sent, signature)) => {
+                let shown = Signed {
+                    value: shown,
+                    signature,
+                };
+                self.signer = Some(key);
+                put_in(&mut self.view, Some(view_over(ready, copies, shown)));
+                self.blocks.let_go();
+                Ok(sent)
+            }
+            Err(error) => {
+                let_go((ready, copies, shown));
+                Err(error)
+            }
+        }
     }
 
     /// Signs the structure over the accepted reply by the key that the table of principals names for it, and gives it
@@ -124,46 +255,9 @@ impl<L: Device, J: Device, A: Allocator + Copy> Client<L, J, A> {
         ensures err { IfErr result (λ e. e ≢ ClientError.Device → self.new ≡ self.old) }
     {
         self.releases.type_invariant();
-        let Some(key) = self.signer_of() else {
-            return Err(ClientError::NoKey);
-        };
-        let _size = self.releases.key(key).as_bytes();
-        if !self.releases.has_free_leaf(key) {
-            return Err(ClientError::NoLeaf);
-        }
-        let (draft, copies) = match self.draft() {
-            Ok(drawn) => drawn,
-            Err(_) => return Err(ClientError::Memory),
-        };
-        let ready = self.progress.take_accepted();
-        let Draft {
-            structure,
-            shown,
-            text,
-        } = draft;
-        match self.releases.sign(key, structure, text) {
-            Ok((sent, signature)) => {
-                let shown = Signed {
-                    value: shown,
-                    signature,
-                };
-                self.signer = Some(key);
-                let accepted = AcceptedView {
-                    good: ready.good,
-                    structures: with_own(copies, shown),
-                    lost: ready.lost,
-                    looking: None,
-                };
-                put_in(&mut self.view, Some(accepted));
-                self.blocks.let_go();
-                Ok(sent)
-            }
-            Err(error) => {
-                let_go(ready);
-                let_go(copies);
-                let_go(shown);
-                Err(error)
-            }
+        match self.prepared() {
+            Ok(prepared) => self.sign_prepared(prepared),
+            Err(error) => Err(error),
         }
     }
 
