@@ -4,6 +4,7 @@
 use crate::requests::{joined, put_frame};
 use crate::serving::{Host, serve_beside};
 use crate::users::with_users;
+use layout::let_go;
 use lms_sign::{Leaf, PrivateKey, PublicKey, sign, verify};
 use server_workers::OpenGate;
 use std::alloc::Global;
@@ -136,6 +137,31 @@ fn least_times<R: Host>(
     least
 }
 
+/// User 0 lists user 1 with a key, by which a call is refused over a connection.
+fn is_listed<R: Host>(
+    rt: &R,
+    stream: &mut TcpStream,
+    caller: &mut Caller<TcpStream>,
+    superuser: &mut PlainUser,
+    key: &PrivateKey<Global>,
+) {
+    let listing = change(rt, [6, 1], &key.public());
+    operate(rt, caller, superuser, &listing);
+    are_refused(rt, stream, &frames(rt, &signature_by(rt, key), 1), 1);
+}
+
+/// User 0 gives user 1 another key: a signature by it.
+fn renewed<R: Host>(
+    rt: &R,
+    caller: &mut Caller<TcpStream>,
+    superuser: &mut PlainUser,
+    key: &PrivateKey<Global>,
+) -> Vec<u8> {
+    let renewal = change(rt, [9, 1], &key.public());
+    operate(rt, caller, superuser, &renewal);
+    signature_by(rt, key)
+}
+
 /// The first connection has user 1's old key before user 0 gives user 1 another one; the second one begins afterwards.
 /// Were each of its calls verified under both keys, or twice under one, they would take twice as long.
 fn are_verified_once<R: Host>(
@@ -146,15 +172,13 @@ fn are_verified_once<R: Host>(
     superuser: &mut PlainUser,
 ) {
     let (first, second) = (key_of(rt, 1), key_of(rt, 2));
-    let listing = change(rt, [6, 1], &first.public());
-    operate(rt, caller, superuser, &listing);
-    are_refused(rt, old, &frames(rt, &signature_by(rt, &first), 1), 1);
-    let renewal = change(rt, [9, 1], &second.public());
-    operate(rt, caller, superuser, &renewal);
-    let by_second = signature_by(rt, &second);
+    is_listed(rt, old, caller, superuser, &first);
+    let by_second = renewed(rt, caller, superuser, &second);
+    let newest = second.public();
+    let_go((first, second));
     are_refused(rt, old, &frames(rt, &by_second, 1), 1);
     are_refused(rt, new, &frames(rt, &by_second, 1), 1);
-    let times = least_times(rt, old, new, (&second.public(), &by_second));
+    let times = least_times(rt, old, new, (&newest, &by_second));
     assert!(rt; times.are_once(), "{times:?}");
 }
 
