@@ -171,7 +171,7 @@ fn hear(
         if lists.is_hostile {
             betray(rt, client, store.get(digest), false);
         }
-        step = hand(rt, client, store.get(digest));
+        put_in(&mut step, hand(rt, client, store.get(digest)));
     }
     panic!(rt; "too many blocks")
 }
