@@ -1,12 +1,11 @@
 //! Crashes of files of blocks: what was synced is found, after each failed call, whatever is left of what wasn't.
 
 use crate::blocks::{ABC, NOTHING, ROOM, is_found, opened, put};
-use crate::storages::{Host, device_of};
+use crate::storages::{Host, WAYS, crashed, device_of};
 use block_file::{BlockError, BlockFile};
 use leaf_ledger::{Device, MemoryDevice};
 use std::alloc::Global;
 use storage::DeviceStorage;
-use tests_aids::crashes::left_by_crash;
 
 /// Puts a text and then another, each with a sync after it, until a call of the device fails. Tells how many were
 /// synced.
@@ -32,27 +31,6 @@ const CALLS: u64 = 2 + 2 * 2;
 
 /// How many calls an open makes of a file with both blocks: a sync, the size and two heads.
 const LATER_CALLS: u64 = 2 + 2;
-
-/// In how many ways a crash leaves an extent: old, new, or filled with one of four bytes; and what lies past the old
-/// end whole, or cut short by a byte or by half.
-const WAYS: usize = 6 * 3;
-
-/// The device after a crash that leaves what wasn't synced in this way.
-fn crashed(rt: &impl Host, device: MemoryDevice<Global>, way: usize) -> MemoryDevice<Global> {
-    let mut left = left_by_crash(rt.alloc(), &device, way % 6).expect(rt, "memory");
-    let least = device.synced_text().len();
-    let more = left.len().saturating_sub(least);
-    let cut = match way / 6 {
-        0 => 0,
-        1 => 1,
-        _ => more / 2,
-    };
-    left.truncate(least.saturating_add(more.saturating_sub(cut)));
-    match device.crash(left) {
-        Ok(device) => device,
-        Err((error, _)) => panic!(rt; "{error}"),
-    }
-}
 
 /// An empty file after this call failed, and how many texts were synced before.
 fn after_puts(rt: &impl Host, failing: u64) -> (usize, MemoryDevice<Global>) {

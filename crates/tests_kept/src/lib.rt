@@ -1,9 +1,23 @@
-//! Tests of what a server keeps in files, in no program yet: blocks.
+//! Tests of what a server keeps in files, in no program yet: blocks, and logs that are read back.
 #![tactic(auto)]
 
 #[cfg(test)]
 mod block_crashes;
 #[cfg(test)]
 mod blocks;
+#[cfg(test)]
+mod here;
+#[cfg(test)]
+mod history;
+#[cfg(test)]
+mod kept;
+#[cfg(test)]
+mod log_crashes;
+#[cfg(test)]
+mod logs;
+#[cfg(test)]
+mod refused_logs;
+#[cfg(test)]
+mod signer;
 #[cfg(test)]
 mod storages;

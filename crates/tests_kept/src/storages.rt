@@ -1,10 +1,11 @@
-//! What these tests share: what they run in, storages over devices in memory, and how errors print.
+//! What these tests share: what they run in, storages over devices in memory and crashes of them, and how errors print.
 
 use leaf_ledger::MemoryDevice;
 use std::alloc::Global;
 use std::fmt::Display;
 use std::process::Abort;
 use storage::DeviceStorage;
+use tests_aids::crashes::left_by_crash;
 
 /// What a test runs in.
 pub(crate) trait Host: Alloc<A = Global> + Abort {}
@@ -14,11 +15,39 @@ impl<R: Alloc<A = Global> + Abort> Host for R {}
 /// A storage over a device in memory.
 pub(crate) type Memory = DeviceStorage<MemoryDevice<Global>>;
 
+/// The same bytes once more.
+pub(crate) fn copy(rt: &impl Host, text: &[u8]) -> Vec<u8> {
+    Vec::from_slice(rt.alloc(), text).expect(rt, "memory")
+}
+
 /// A device in memory with this text.
 pub(crate) fn device_of(rt: &impl Host, text: &[u8]) -> MemoryDevice<Global> {
-    let alloc = rt.alloc();
-    let text = Vec::from_slice(alloc, text).expect(rt, "memory");
-    MemoryDevice::new(alloc, text).expect(rt, "memory")
+    MemoryDevice::new(rt.alloc(), copy(rt, text)).expect(rt, "memory")
+}
+
+/// In how many ways a crash leaves an extent: old, new, or filled with one of four bytes; and what lies past the old
+/// end whole, or cut short by a byte or by half.
+pub(crate) const WAYS: usize = 6 * 3;
+
+/// The device after a crash that leaves what wasn't synced in this way.
+pub(crate) fn crashed(
+    rt: &impl Host,
+    device: MemoryDevice<Global>,
+    way: usize,
+) -> MemoryDevice<Global> {
+    let mut left = left_by_crash(rt.alloc(), &device, way % 6).expect(rt, "memory");
+    let least = device.synced_text().len();
+    let more = left.len().saturating_sub(least);
+    let cut = match way / 6 {
+        0 => 0,
+        1 => 1,
+        _ => more / 2,
+    };
+    left.truncate(least.saturating_add(more.saturating_sub(cut)));
+    match device.crash(left) {
+        Ok(device) => device,
+        Err((error, _)) => panic!(rt; "{error}"),
+    }
 }
 
 /// A storage with this text.
@@ -28,8 +57,7 @@ pub(crate) fn storage_of(rt: &impl Host, text: &[u8]) -> Memory {
 
 /// The bytes that a storage has.
 pub(crate) fn file_text(rt: &impl Host, storage: Memory) -> Vec<u8> {
-    let device = storage.close();
-    Vec::from_slice(rt.alloc(), device.text()).expect(rt, "memory")
+    copy(rt, storage.close().text())
 }
 
 /// Each error prints its line, and there are no more lines.
