@@ -5,9 +5,12 @@ use crate::history::{Line, first_operation};
 use crate::kept::{add, count_told, ended, records_of};
 use crate::signer::Signer;
 use crate::storages::{Host, copy, device_of, print_lines, storage_of};
+use layout::let_go;
 use lms_sign::PublicKey;
 use server_log::{OpenError, ReplayError, open_order};
+use std::alloc::Global;
 use tests_aids::texts::changed;
+use tests_refusing::Refusing;
 
 /// A file is refused so, under this key. It keeps its bytes, of which none wait for a sync.
 fn is_refused(rt: &impl Host, file: &[u8], pinned: PublicKey, wanted: OpenError) {
@@ -174,6 +177,66 @@ fn a_failing_device_is_told(rt: HostRuntime) {
         let wanted = (failing == OPEN_CALLS).then_some(2);
         assert!(rt; told == wanted, "call {failing}");
     }
+}
+
+/// Opens a log where this growth of memory is refused: whether one was, which is told, and the file is as before.
+fn wants_memory(
+    rt: &impl Host,
+    heap: &Refusing<Global>,
+    file: &[u8],
+    pinned: PublicKey,
+    number: u64,
+) -> bool {
+    heap.refuse(number);
+    let opened = open_order(heap, storage_of(rt, file), pinned);
+    let is_refused = heap.asked(number) >= number;
+    match opened {
+        Ok(kept) => {
+            assert!(rt; !is_refused, "growth {number} is refused, and nothing told");
+            let_go(kept);
+        }
+        Err((error, storage)) => {
+            let device = storage.close();
+            assert!(rt;
+                is_refused && error == OpenError::Memory,
+                "{number}: {error}"
+            );
+            assert!(rt; device.text() == file && device.unsynced().is_empty());
+        }
+    }
+    is_refused
+}
+
+/// How many growths are refused, one a run, until a run meets no refusal.
+fn count_refused(rt: &impl Host, file: &[u8], pinned: PublicKey) -> u64 {
+    let heap = Refusing::new(rt.alloc());
+    for number in 1..1_000 {
+        if !wants_memory(rt, &heap, file, pinned, number) {
+            return number.saturating_sub(1);
+        }
+    }
+    panic!(rt; "too many growths");
+}
+
+/// The growths of a new log: the key, the list of its one record, and the bytes of that, which grow three times.
+const NEW_LOG: u64 = 1 + 1 + 3;
+
+/// Those of an UPDATE that is read: its text, once in the record and once in the call; the plan's vector; the text that
+/// is kept; the plan's text, which grows four times; the reply, and what shares it; the vector that is kept; a place in
+/// the history, of no bytes; room for a structure and for a pending operation; and a place in what is told, of no bytes.
+const UPDATE: u64 = 2 + 1 + 1 + 4 + 2 + 1 + 1 + 2 + 1;
+
+/// Those of a COMMIT: its text twice, the plan's vector, the plan's text, the text that is kept, room for one more
+/// pending operation, and a place in what is told.
+const COMMIT: u64 = 2 + 1 + 4 + 1 + 1 + 1;
+
+#[test]
+fn without_memory_no_log_is_opened(rt: HostRuntime) {
+    let first = first_texts(&rt);
+    let made = count_refused(&rt, b"\0", first.pinned);
+    let opened = count_refused(&rt, &ended(&rt, &first.records), first.pinned);
+    assert_eq!(rt; (made, opened), (NEW_LOG, 1 + UPDATE + COMMIT));
+    assert_eq!(rt; (made, opened), (5, 26));
 }
 
 #[test]
