@@ -82,28 +82,6 @@ fn known<T>(rt: &impl Aided, answer: Result<T, ClientError>) -> Option<T> {
     }
 }
 
-/// The declaration of an operation.
-fn begun<'h>(
-    rt: &impl Aided,
-    heap: Heap<'h>,
-    client: &mut HeapClient<'h>,
-    planned: &Planned<'h>,
-) -> Option<Said> {
-    let Planned { changes, laid } = planned;
-    if client.phase() != Phase::Idle || changes.len() > MOST_CHANGES {
-        rt.fail("it can't begin");
-    }
-    // What has to hold before isn't counted.
-    let left = heap.pause();
-    let is_laid = given(rt, are_laid(heap, laid, changes), "memory");
-    heap.go_on(left);
-    if !is_laid {
-        rt.fail("not all is laid out");
-    }
-    let text = known(rt, client.begin(changes, laid))?;
-    Some(telling(rt, &text))
-}
-
 /// What comes of a reply, or of a block: the next block that is asked for, or the texts to be stored.
 fn of_step(rt: &impl Aided, step: Step<Heap<'_>>) -> Said {
     match step {
@@ -119,31 +97,6 @@ fn of_step(rt: &impl Aided, step: Step<Heap<'_>>) -> Said {
     }
 }
 
-fn heard(rt: &impl Aided, client: &mut HeapClient<'_>, reply: &[u8]) -> Option<Said> {
-    if client.phase() != Phase::Declared {
-        rt.fail("nothing is declared");
-    }
-    let step = known(rt, client.on_reply(reply))?;
-    Some(of_step(rt, step))
-}
-
-fn handed(rt: &impl Aided, client: &mut HeapClient<'_>, block: &[u8]) -> Option<Said> {
-    if !client.wants() {
-        rt.fail("no block is asked for");
-    }
-    let step = known(rt, client.on_block(Some(block)))?;
-    Some(of_step(rt, step))
-}
-
-/// The structure over an accepted reply.
-fn signed(rt: &impl Aided, client: &mut HeapClient<'_>) -> Option<Said> {
-    if !client.ready() {
-        rt.fail("no reply is accepted");
-    }
-    let text = known(rt, client.sign())?;
-    Some(telling(rt, &text))
-}
-
 /// What a look sees: the next block that is asked for, or a file.
 fn of_look(rt: &impl Aided, look: Look<Heap<'_>>) -> Said {
     match look {
@@ -153,21 +106,99 @@ fn of_look(rt: &impl Aided, look: Look<Heap<'_>>) -> Said {
     }
 }
 
-fn looked(rt: &impl Aided, client: &mut HeapClient<'_>, place: &[u8]) -> Option<Said> {
+/// What a client answers by a text. None where memory ran out.
+fn text_said(rt: &impl Aided, answer: Result<Vec<u8, Heap<'_>>, ClientError>) -> Option<Said> {
+    let text = known(rt, answer)?;
+    Some(telling(rt, &text))
+}
+
+/// What a client answers by a step.
+fn step_said(rt: &impl Aided, answer: Result<Step<Heap<'_>>, ClientError>) -> Option<Said> {
+    let step = known(rt, answer)?;
+    Some(of_step(rt, step))
+}
+
+/// What a client answers by a look.
+fn look_said(rt: &impl Aided, answer: Result<Look<Heap<'_>>, ClientError>) -> Option<Said> {
+    let look = known(rt, answer)?;
+    Some(of_look(rt, look))
+}
+
+/// The declaration of an operation.
+fn begun<'h>(
+    rt: &impl Aided,
+    heap: Heap<'h>,
+    client: &mut HeapClient<'h>,
+    planned: &Planned<'h>,
+) -> Result<Vec<u8, Heap<'h>>, ClientError> {
+    let Planned { changes, laid } = planned;
+    if client.phase() != Phase::Idle || changes.len() > MOST_CHANGES {
+        rt.fail("it can't begin");
+    }
+    // What has to hold before isn't counted.
+    let left = heap.pause();
+    let is_laid = given(rt, are_laid(heap, laid, changes), "memory");
+    heap.go_on(left);
+    if !is_laid {
+        rt.fail("not all is laid out");
+    }
+    client.begin(changes, laid)
+}
+
+fn heard<'h>(
+    rt: &impl Aided,
+    client: &mut HeapClient<'h>,
+    reply: &[u8],
+) -> Result<Step<Heap<'h>>, ClientError> {
+    if client.phase() != Phase::Declared {
+        rt.fail("nothing is declared");
+    }
+    client.on_reply(reply)
+}
+
+fn handed<'h>(
+    rt: &impl Aided,
+    client: &mut HeapClient<'h>,
+    block: &[u8],
+) -> Result<Step<Heap<'h>>, ClientError> {
+    if !client.wants() {
+        rt.fail("no block is asked for");
+    }
+    client.on_block(Some(block))
+}
+
+/// The structure over an accepted reply.
+fn signed<'h>(
+    rt: &impl Aided,
+    client: &mut HeapClient<'h>,
+) -> Result<Vec<u8, Heap<'h>>, ClientError> {
+    if !client.ready() {
+        rt.fail("no reply is accepted");
+    }
+    client.sign()
+}
+
+fn looked<'h>(
+    rt: &impl Aided,
+    client: &mut HeapClient<'h>,
+    place: &[u8],
+) -> Result<Look<Heap<'h>>, ClientError> {
     if !client.has_view() {
         rt.fail("no view");
     }
     let (owner, number) = place_of(rt, place);
-    let look = known(rt, client.look(owner, number))?;
-    Some(of_look(rt, look))
+    client.look(owner, number)
 }
 
-fn gave(rt: &impl Aided, client: &mut HeapClient<'_>, block: &[u8]) -> Option<Said> {
+fn gave<'h>(
+    rt: &impl Aided,
+    client: &mut HeapClient<'h>,
+    block: &[u8],
+) -> Result<Look<Heap<'h>>, ClientError> {
     if !client.looking() {
         rt.fail("no look asks for a block");
     }
-    let look = known(rt, client.give(Some(block)))?;
-    Some(of_look(rt, look))
+    client.give(Some(block))
 }
 
 /// What a client answers to a call: `b` begins an operation of what is planned, `r` has a reply for it, `n` a block that
@@ -181,12 +212,12 @@ fn asked<'h>(
     text: &[u8],
 ) -> Option<Said> {
     match call {
-        b'b' => begun(rt, heap, client, planned),
-        b'r' => heard(rt, client, text),
-        b'n' => handed(rt, client, text),
-        b's' => signed(rt, client),
-        b'l' => looked(rt, client, text),
-        _ => gave(rt, client, text),
+        b'b' => text_said(rt, begun(rt, heap, client, planned)),
+        b'r' => step_said(rt, heard(rt, client, text)),
+        b'n' => step_said(rt, handed(rt, client, text)),
+        b's' => text_said(rt, signed(rt, client)),
+        b'l' => look_said(rt, looked(rt, client, text)),
+        _ => look_said(rt, gave(rt, client, text)),
     }
 }
 

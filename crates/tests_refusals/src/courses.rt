@@ -5,7 +5,7 @@ use crate::meter::{Heap, MOST, Meter, Swept};
 use crate::plans::{Planned, nothing, number_of, plan};
 use client_tree::Held;
 use consistency_server::{CallKind, MemoryLog, Ordered};
-use layout::put_in;
+use layout::{let_go, put_in};
 use lms_sign::{PrivateKey, PublicKey};
 use std::alloc::Global;
 use std::mem;
@@ -309,7 +309,25 @@ fn run<'h>(
     make_all(rt, &mut town, &mut clients, course.moves);
     check_text(rt, &town.seen, course.seen);
     take_keys(rt, clients, keys);
-    let Town { meter, said, .. } = town;
+    ended(town)
+}
+
+/// What is left of a town: who counts, and what was answered.
+fn ended(town: Town<'_>) -> (Meter<'_>, Vec<u8>) {
+    let Town {
+        meter,
+        keys,
+        ordered,
+        log,
+        blocks,
+        planned,
+        texts,
+        said,
+        seen,
+    } = town;
+    let_go((ordered, log, blocks));
+    let_go((planned, texts));
+    let_go((keys, seen));
     (meter, said)
 }
 
@@ -324,8 +342,23 @@ fn take_keys<'h>(
     }
 }
 
-/// Refuses each growth of a course in turn over keys, until a run meets no refusal. What is answered is what is always
-/// answered.
+/// Makes all moves of a course, where the growth of this number is refused: what is answered is what is always answered.
+/// True where the run meets no refusal.
+fn is_over<'h>(
+    rt: &impl Aided,
+    heap: Heap<'h>,
+    keys: &mut Vec<PrivateKey<Heap<'h>>>,
+    course: &Course,
+    number: u64,
+    always: &[u8],
+    swept: &mut Swept,
+) -> bool {
+    let (meter, said) = run(rt, heap, keys, course, number);
+    check_text(rt, &said, always);
+    swept.is_over(rt, &meter)
+}
+
+/// Refuses each growth of a course in turn over keys, until a run meets no refusal.
 fn sweep_over<'h>(
     rt: &impl Aided,
     heap: Heap<'h>,
@@ -335,9 +368,7 @@ fn sweep_over<'h>(
     let (_meter, always) = run(rt, heap, keys, course, 0);
     let mut swept = Swept::new(rt);
     for number in 1..MOST {
-        let (meter, said) = run(rt, heap, keys, course, number);
-        check_text(rt, &said, &always);
-        if swept.is_over(rt, &meter) {
+        if is_over(rt, heap, keys, course, number, &always, &mut swept) {
             return swept;
         }
     }

@@ -109,8 +109,29 @@ fn lacks(rt: &impl Aided, replies: &[Vec<u8>], always: &[Vec<u8>]) -> bool {
     count == 1
 }
 
-/// Refuses each growth of a server in turn, to which these requests come over one connection. That memory ran out is
-/// told once, and what comes after it is replied as always; or else the conversation ends.
+/// Refuses the growth of a number: that memory ran out is told once, and what comes after it is replied as always; or
+/// else the conversation ends. True where no growth has this number.
+fn is_over<R: ThreadHost>(
+    rt: &R,
+    heap: Heap<'_>,
+    pinned: PublicKey,
+    requests: &[u8],
+    number: u64,
+    always: &[Vec<u8>],
+    swept: &mut Swept,
+) -> bool {
+    let host = &(rt, Here);
+    let replied = replies(rt, heap, pinned, requests, number);
+    let mut meter = Meter::after(heap, number);
+    let told = match &replied {
+        Some(replied) => lacks(host, replied, always),
+        None => true,
+    };
+    meter.is_again(host, b'a', told);
+    swept.is_over(host, &meter)
+}
+
+/// Refuses each growth of a server in turn, to which these requests come over one connection.
 fn sweep<R: ThreadHost>(rt: &R, requests: &[u8], count: usize) -> Swept {
     let host = &(rt, Here);
     let heap = Refusing::new(rt.alloc());
@@ -119,14 +140,7 @@ fn sweep<R: ThreadHost>(rt: &R, requests: &[u8], count: usize) -> Swept {
     check(host, always.len() == count, "a reply to each");
     let mut swept = Swept::new(host);
     for number in 1..MOST {
-        let replied = replies(rt, &heap, pinned, requests, number);
-        let mut meter = Meter::after(&heap, number);
-        let told = match &replied {
-            Some(replied) => lacks(host, replied, &always),
-            None => true,
-        };
-        meter.is_again(host, b'a', told);
-        if swept.is_over(host, &meter) {
+        if is_over(rt, &heap, pinned, requests, number, &always, &mut swept) {
             return swept;
         }
     }
