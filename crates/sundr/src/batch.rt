@@ -34,31 +34,69 @@ pub(crate) fn with_program<'a>(
     Ok(all)
 }
 
+/// What came of a command, and what is told beside it.
+fn answered<H: Net<Stream = TcpStream>>(server: &Server<'_, H>, answer: Answer<Global>) -> Outcome {
+    let reach = server.reach();
+    Outcome::Answer(
+        answer,
+        Beside {
+            reach,
+            leaves: None,
+        },
+    )
+}
+
+/// Carries a command out that needs no file.
+fn run<H: Net<Stream = TcpStream>>(
+    rt: &HostRuntime,
+    server: &Server<'_, H>,
+    session: &mut OwnSession<'_, H>,
+    command: &Command<'_>,
+) -> Outcome {
+    answered(server, answer(rt, session, command))
+}
+
 /// Puts the content of a file of the system.
 fn put<H: Net<Stream = TcpStream>>(
     rt: &HostRuntime,
+    server: &Server<'_, H>,
     session: &mut OwnSession<'_, H>,
     path: &str,
     file: &str,
-) -> Result<Answer<Global>, Hindrance> {
+) -> Result<Outcome, Hindrance> {
     let content = read_content(rt, file)?;
     let command = Command::Put {
         path,
         content: &content,
     };
-    Ok(answer(rt, session, &command))
+    Ok(run(rt, server, session, &command))
 }
 
 /// Writes the content of what stands at a path into a file of the system.
 fn get<H: Net<Stream = TcpStream>>(
     rt: &HostRuntime,
+    server: &Server<'_, H>,
     session: &mut OwnSession<'_, H>,
     path: &str,
     file: &str,
-) -> Result<Answer<Global>, Hindrance> {
+) -> Result<Outcome, Hindrance> {
     check_target(rt, file)?;
     let answer = answer(rt, session, &Command::Cat(path));
-    into_file(rt, answer, file)
+    Ok(answered(server, into_file(rt, answer, file)?))
+}
+
+/// Makes the changes that a file of the system has. Where its words are at fault nothing is begun.
+fn make_changes<H: Net<Stream = TcpStream>>(
+    rt: &HostRuntime,
+    server: &Server<'_, H>,
+    session: &mut OwnSession<'_, H>,
+    file: &str,
+) -> Result<Outcome, Hindrance> {
+    match read_changes(rt, file) {
+        Ok(changes) => Ok(run(rt, server, session, &Command::Admin(&changes))),
+        Err(NoChanges::Line(status)) => Ok(Outcome::Ended(status)),
+        Err(NoChanges::Hindered(hindrance)) => Err(hindrance),
+    }
 }
 
 /// Does what a line of a batch wants; a batch and a renewal are none.
@@ -69,27 +107,15 @@ fn obey<H: Net<Stream = TcpStream> + Threads + Sync>(
     session: &mut OwnSession<'_, H>,
     wanted: &Wanted<'_>,
 ) -> Result<Outcome, Hindrance> {
-    let answer = match wanted {
-        Wanted::Key => return Ok(Outcome::Key(own_key_digits(rt, server.host(), line)?)),
-        Wanted::Status => return Ok(Outcome::Status(read_standing(rt, server.host(), line)?)),
-        Wanted::Batch { .. } | Wanted::Renew { .. } => return Ok(Outcome::Ended(WORDS)),
-        Wanted::Admin(file) => match read_changes(rt, file) {
-            Ok(changes) => answer(rt, session, &Command::Admin(&changes)),
-            Err(NoChanges::Line(status)) => return Ok(Outcome::Ended(status)),
-            Err(NoChanges::Hindered(hindrance)) => return Err(hindrance),
-        },
-        Wanted::Run(command) => answer(rt, session, command),
-        Wanted::Put { path, file } => put(rt, session, path, file)?,
-        Wanted::Get { path, file } => get(rt, session, path, file)?,
-    };
-    let reach = server.reach();
-    Ok(Outcome::Answer(
-        answer,
-        Beside {
-            reach,
-            leaves: None,
-        },
-    ))
+    match wanted {
+        Wanted::Key => own_key_digits(rt, server.host(), line).map(Outcome::Key),
+        Wanted::Status => read_standing(rt, server.host(), line).map(Outcome::Status),
+        Wanted::Batch { .. } | Wanted::Renew { .. } => Ok(Outcome::Ended(WORDS)),
+        Wanted::Admin(file) => make_changes(rt, server, session, file),
+        Wanted::Run(command) => Ok(run(rt, server, session, command)),
+        Wanted::Put { path, file } => put(rt, server, session, path, file),
+        Wanted::Get { path, file } => get(rt, server, session, path, file),
+    }
 }
 
 /// Whether an answer tells that nothing can be sent any more over the connection that its command went over.
@@ -201,26 +227,23 @@ fn reconnect<'a, H: Net<Stream = TcpStream>>(
     session_of(rt, server.again(), client, kept)
 }
 
-/// Carries out a line with its number, from 1 on. A status that isn't 0 is told with it.
-fn carry_out_numbered<'a, H: Net<Stream = TcpStream> + Threads + Sync>(
+/// Carries out a line with its number, from 1 on. A status that isn't 0 is told with it. Where the line can't be read, or
+/// its answer can't be printed, that is told: the status to end with.
+fn carry_out_numbered<H: Net<Stream = TcpStream> + Threads + Sync>(
     rt: &HostRuntime,
-    server: &Server<'a, H>,
+    server: &Server<'_, H>,
     line: &Line<'_>,
-    session: OwnSession<'a, H>,
+    session: &mut OwnSession<'_, H>,
     (number, text): (usize, io::Result<String>),
-) -> (OwnSession<'a, H>, anyhow::Result<u8>) {
-    let mut session = session;
-    match carry_out_read(rt, server, line, &mut session, text) {
+) -> Result<Ended, u8> {
+    match carry_out_read(rt, server, line, session, text) {
         Ok(ended) => {
             if ended.status != 0 {
                 let _ = eprintln!(rt; "line {number}: status {}", ended.status);
             }
-            if ended.is_cut {
-                session = reconnect(rt, server, session);
-            }
-            (session, Ok(ended.status))
+            Ok(ended)
         }
-        Err(error) => (session, Err(error)),
+        Err(error) => Err(tell(rt, error)),
     }
 }
 
@@ -237,17 +260,19 @@ fn carry_out_all<H: Net<Stream = TcpStream> + Threads + Sync>(
     let mut first = 0;
     for (place, text) in rt.lines(rt.alloc()).enumerate() {
         let numbered = (place.saturating_add(1), text);
-        let (next, ended) = carry_out_numbered(rt, server, line, session, numbered);
-        session = next;
-        let (status, is_last) = match ended {
-            Ok(status) => (status, stops && status != 0),
-            Err(error) => (tell(rt, error), true),
+        let ended = carry_out_numbered(rt, server, line, &mut session, numbered);
+        let (status, is_cut, is_last) = match ended {
+            Ok(ended) => (ended.status, ended.is_cut, stops && ended.status != 0),
+            Err(status) => (status, false, true),
         };
         if first == 0 {
             first = status;
         }
         if is_last {
             break;
+        }
+        if is_cut {
+            session = reconnect(rt, server, session);
         }
     }
     tell_leaves(rt, end(rt, line.dir, session));

@@ -1,10 +1,10 @@
 //! What the file `config` of a user's folder says.
 
+use crate::folder::{open_there, read_first};
 use file_commands::split_words;
 use layout::put_in;
 use std::alloc::{AllocError, Global};
-use std::fs::File;
-use std::io::{self, ErrorKind, Read};
+use std::io::{self, ErrorKind};
 
 /// The name of the file.
 const CONFIG: &str = "config";
@@ -87,14 +87,12 @@ fn server_in(alloc: Global, text: &str) -> Result<Option<String>, ConfigFault> {
 
 /// What the file at a path holds; None where there is none.
 fn read_text(rt: &HostRuntime, path: &str) -> Result<Option<Vec<u8>>, ConfigFault> {
-    let file = match File::open(rt, path) {
-        Ok(file) => file,
-        Err(fault) if fault.kind() == ErrorKind::NotFound => return Ok(None),
-        Err(fault) => return Err(ConfigFault::of(&fault)),
+    let there = open_there(rt, path).map_err(|fault| ConfigFault::of(&fault))?;
+    let Some(file) = there else {
+        return Ok(None);
     };
-    let mut text = Vec::new(rt.alloc());
-    match file.take(CONFIG_SIZE as u64 + 1).read_to_end(&mut text) {
-        Ok(count) if count <= CONFIG_SIZE => Ok(Some(text)),
+    match read_first(rt, file, CONFIG_SIZE as u64 + 1) {
+        Ok(text) if text.len() <= CONFIG_SIZE => Ok(Some(text)),
         Ok(_) => Err(ConfigFault::Unread),
         Err(fault) => Err(ConfigFault::of(&fault)),
     }

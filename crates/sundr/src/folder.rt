@@ -110,6 +110,22 @@ fn name_of(alloc: Global, name: &str, number: u8) -> Result<String, AllocError> 
     }
 }
 
+/// A file of the system, if there is one.
+pub(crate) fn open_there(rt: &HostRuntime, path: &str) -> io::Result<Option<File>> {
+    match File::open(rt, path) {
+        Ok(file) => Ok(Some(file)),
+        Err(fault) if fault.kind() == ErrorKind::NotFound => Ok(None),
+        Err(fault) => Err(fault),
+    }
+}
+
+/// The first bytes of a file, at most so many.
+pub(crate) fn read_first(rt: &HostRuntime, file: File, size: u64) -> io::Result<Vec<u8>> {
+    let mut bytes = Vec::new(rt.alloc());
+    file.take(size).read_to_end(&mut bytes)?;
+    Ok(bytes)
+}
+
 /// Reads the last bytes of a file: none are to follow them.
 fn read_last(file: &mut File, bytes: &mut [u8]) -> Option<()> {
     file.read_exact(bytes).ok()?;
@@ -127,10 +143,9 @@ fn seed_hindrance(number: u8, fault: &io::Error) -> Hindrance {
 /// The file of a seed, if there is one. One that others than its owner may use is refused.
 fn open_seed(rt: &HostRuntime, folder: &str, number: u8) -> Result<Option<File>, Hindrance> {
     let path = path_of(rt.alloc(), folder, FolderFile::Seed(number))?;
-    let file = match File::open(rt, &path) {
-        Ok(file) => file,
-        Err(fault) if fault.kind() == ErrorKind::NotFound => return Ok(None),
-        Err(fault) => return Err(seed_hindrance(number, &fault)),
+    let there = open_there(rt, &path).map_err(|fault| seed_hindrance(number, &fault))?;
+    let Some(file) = there else {
+        return Ok(None);
     };
     let found = file
         .metadata()
@@ -301,11 +316,7 @@ pub(crate) fn keep_leaves(
 fn read_blocks_text(rt: &HostRuntime, folder: &str) -> Option<Vec<u8>> {
     let path = path_in(rt.alloc(), folder, BLOCKS).ok()?;
     let file = File::open(rt, &path).ok()?;
-    let mut text = Vec::new(rt.alloc());
-    file.take(BLOCKS_SIZE as u64 + 1)
-        .read_to_end(&mut text)
-        .ok()?;
-    Some(text)
+    read_first(rt, file, BLOCKS_SIZE as u64 + 1).ok()
 }
 
 /// The blocks that were kept, if their file is one of them. Each is compared with its digest when it is asked for.
@@ -335,14 +346,8 @@ pub(crate) fn keep_blocks(
 /// The bytes of a file of the system, of which one more than a file may have is enough.
 pub(crate) fn read_content(rt: &HostRuntime, path: &str) -> Result<Vec<u8>, Hindrance> {
     let file = File::open(rt, path).map_err(|fault| content_hindrance(&fault))?;
-    let mut content = Vec::new(rt.alloc());
-    match file
-        .take(u64::from(FILE_SIZE) + 1)
-        .read_to_end(&mut content)
-    {
-        Ok(_) => Ok(content),
-        Err(fault) => Err(content_hindrance(&fault)),
-    }
+    let content = read_first(rt, file, u64::from(FILE_SIZE) + 1);
+    content.map_err(|fault| content_hindrance(&fault))
 }
 
 /// Refuses a name of the system into which no bytes of a file can be written: one of what is no file.
@@ -382,16 +387,11 @@ fn user_of(text: &[u8]) -> Option<User> {
 
 /// The user whose folder it is, if it tells that.
 fn read_user(rt: &HostRuntime, folder: &str) -> Result<Option<User>, Hindrance> {
-    let path = path_of(rt.alloc(), folder, FolderFile::User)?;
-    let file = match File::open(rt, &path) {
-        Ok(file) => file,
-        Err(fault) if fault.kind() == ErrorKind::NotFound => return Ok(None),
-        Err(fault) => return Err(device_hindrance(FolderFile::User, &fault)),
+    let Some(file) = open_present(rt, folder, FolderFile::User)? else {
+        return Ok(None);
     };
-    let mut text = Vec::new(rt.alloc());
-    file.take(USER_SIZE)
-        .read_to_end(&mut text)
-        .map_err(|fault| device_hindrance(FolderFile::User, &fault))?;
+    let text = read_first(rt, file, USER_SIZE);
+    let text = text.map_err(|fault| device_hindrance(FolderFile::User, &fault))?;
     match user_of(&text) {
         Some(user) => Ok(Some(user)),
         None => Err(Hindrance::OfFile(Refusal::Foreign, FolderFile::User, FileFault::NoNumber)),
@@ -543,14 +543,10 @@ fn place_text(rt: &HostRuntime, folder: &str, ledgers: &[File]) -> io::Result<St
 /// What a folder's file tells of its place, if there is one.
 fn read_place(rt: &HostRuntime, folder: &str) -> io::Result<Option<Vec<u8>>> {
     let path = path_in(rt.alloc(), folder, PLACE)?;
-    let file = match File::open(rt, &path) {
-        Ok(file) => file,
-        Err(fault) if fault.kind() == ErrorKind::NotFound => return Ok(None),
-        Err(fault) => return Err(fault),
-    };
-    let mut text = Vec::new(rt.alloc());
-    file.take(PLACE_SIZE).read_to_end(&mut text)?;
-    Ok(Some(text))
+    match open_there(rt, &path)? {
+        Some(file) => read_first(rt, file, PLACE_SIZE).map(Some),
+        None => Ok(None),
+    }
 }
 
 /// Tells a folder its place. The file is synced before it is there: an empty one would be another place.
@@ -668,11 +664,7 @@ fn open_present(
     file: FolderFile,
 ) -> Result<Option<File>, Hindrance> {
     let path = path_of(rt.alloc(), folder, file)?;
-    match File::open(rt, &path) {
-        Ok(found) => Ok(Some(found)),
-        Err(fault) if fault.kind() == ErrorKind::NotFound => Ok(None),
-        Err(fault) => Err(device_hindrance(file, &fault)),
-    }
+    open_there(rt, &path).map_err(|fault| device_hindrance(file, &fault))
 }
 
 /// The files of the ledgers that there are, the first one first, up to one that isn't there.

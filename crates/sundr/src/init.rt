@@ -1,7 +1,7 @@
 //! The making of a user's folder.
 
 use crate::folder::{
-    MOST_KEYS, OWNERS_ALONE, content_hindrance, device_hindrance, hindrance_of, path_of,
+    MOST_KEYS, OWNERS_ALONE, content_hindrance, device_hindrance, hindrance_of, path_of, read_first,
 };
 use crate::hindrance::{FileFault, FolderFile, Hindrance};
 use commands::Refusal;
@@ -13,7 +13,7 @@ use lms_sign::{ID_SIZE, KEY_SIZE, PrivateKey, PublicKey, SEED_SIZE};
 use std::alloc::Global;
 use std::fmt;
 use std::fs::{self, DirBuilder, File, OpenOptions};
-use std::io::{self, ErrorKind, Read, Write};
+use std::io::{self, ErrorKind, Write};
 use std::os::unix::fs::{DirBuilderExt, OpenOptionsExt};
 use std::path::Path;
 use std::random::RandomSource;
@@ -103,10 +103,8 @@ fn key_of(text: &[u8]) -> Option<PublicKey> {
 /// User 0's public key in a file of the system.
 fn read_super_key(rt: &HostRuntime, path: &str) -> Result<PublicKey, Hindrance> {
     let file = File::open(rt, path).map_err(|fault| content_hindrance(&fault))?;
-    let mut text = Vec::new(rt.alloc());
-    file.take(KEY_FILE_SIZE)
-        .read_to_end(&mut text)
-        .map_err(|fault| content_hindrance(&fault))?;
+    let text = read_first(rt, file, KEY_FILE_SIZE);
+    let text = text.map_err(|fault| content_hindrance(&fault))?;
     key_of(&text).ok_or(Hindrance::NoFile(FileFault::NoKey))
 }
 

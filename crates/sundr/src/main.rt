@@ -391,14 +391,14 @@ fn obey<H: Net<Stream = TcpStream> + Threads + Sync>(
     line: &Line<'_>,
 ) -> Result<Outcome, Hindrance> {
     match &line.wanted {
-        Wanted::Key => Ok(Outcome::Key(own_key_digits(rt, host, line)?)),
-        Wanted::Status => Ok(Outcome::Status(read_standing(rt, host, line)?)),
-        Wanted::Batch { stops } => Ok(Outcome::Ended(carry_out_batch(rt, host, line, *stops)?)),
+        Wanted::Key => own_key_digits(rt, host, line).map(Outcome::Key),
+        Wanted::Status => read_standing(rt, host, line).map(Outcome::Status),
+        Wanted::Batch { stops } => carry_out_batch(rt, host, line, *stops).map(Outcome::Ended),
         Wanted::Run(command) => obey_command(rt, host, line, command),
         Wanted::Put { path, file } => put_file(rt, host, line, path, file),
         Wanted::Get { path, file } => get_file(rt, host, line, path, file),
         Wanted::Admin(file) => make_changes(rt, host, line, file),
-        Wanted::Renew { early } => Ok(Outcome::Renewed(renew(rt, host, line, *early)?)),
+        Wanted::Renew { early } => renew(rt, host, line, *early).map(Outcome::Renewed),
     }
 }
 

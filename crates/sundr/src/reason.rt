@@ -39,6 +39,34 @@ pub(crate) enum Reason<'a> {
     },
 }
 
+/// What is so of a file of the folder.
+fn write_of_file<W: fmt::Write>(
+    f: &mut fmt::Formatter<W>,
+    folder: &str,
+    file: FolderFile,
+    words: &str,
+) -> fmt::Result {
+    write!(f, "{folder}/{file}: {words}")
+}
+
+/// What is so of something that has a name.
+fn write_of<W: fmt::Write>(f: &mut fmt::Formatter<W>, name: &str, words: &str) -> fmt::Result {
+    write!(f, "{name}: {words}")
+}
+
+/// That the folder is one user's, and not another's.
+fn write_of_user<W: fmt::Write>(
+    f: &mut fmt::Formatter<W>,
+    folder: &str,
+    own: u8,
+    other: u8,
+) -> fmt::Result {
+    write!(
+        f,
+        "{folder}: the folder of user {own}, not of user {other}: say --user {own}"
+    )
+}
+
 impl<'a> fmt::Display for Reason<'a> {
     fn fmt<W: fmt::Write>(&self, f: &mut fmt::Formatter<W>) -> fmt::Result {
         match self {
@@ -46,12 +74,9 @@ impl<'a> fmt::Display for Reason<'a> {
                 folder,
                 file,
                 words,
-            } => write!(f, "{folder}/{file}: {words}"),
-            Reason::Of { name, words } => write!(f, "{name}: {words}"),
-            Reason::OfUser { folder, own, other } => write!(
-                f,
-                "{folder}: the folder of user {own}, not of user {other}: say --user {own}"
-            ),
+            } => write_of_file(f, folder, *file, words),
+            Reason::Of { name, words } => write_of(f, name, words),
+            Reason::OfUser { folder, own, other } => write_of_user(f, folder, *own, *other),
         }
     }
 }
