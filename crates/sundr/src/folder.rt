@@ -2,11 +2,13 @@
 //! file that is put.
 
 use crate::hindrance::{FileFault, FolderFile, Hindrance};
+use crate::place::check_files;
 use commands::Refusal;
 use drawn_key::{LEDGER_SIZE, kept_key};
+use file_commands::Line;
 use itable::FILE_SIZE;
 use kept_blocks::{KeptBlocks, MOST_BLOCKS, MOST_BYTES};
-use layout::{Memory, Text, User, let_go};
+use layout::{Memory, Text, User};
 use leaf_ledger::{FileDevice, MemoryDevice};
 use lms_sign::{ID_SIZE, KEPT_SIZE, KEY_SIZE, PrivateKey, PublicKey, SEED_SIZE};
 use std::alloc::{AllocError, Global};
@@ -31,15 +33,6 @@ const BLOCKS: &str = "blocks";
 
 /// How many bytes it has at most: a tag and a count; of each block its digest, its size and its bytes.
 const BLOCKS_SIZE: usize = 6 + MOST_BLOCKS * (34 + MOST_BYTES);
-
-/// The file that tells at which place the folder was used last.
-const PLACE: &str = "place";
-
-/// What that file is called until it is whole.
-const PLACE_BESIDE: &str = "place.new";
-
-/// How much is read of it: more than two numbers of the folder and two of each ledger have.
-const PLACE_SIZE: u64 = 1024;
 
 /// The mode of a file that its owner alone reads and writes.
 pub(crate) const OWNERS_ALONE: u32 = 0o600;
@@ -407,7 +400,11 @@ pub(crate) fn check_user(rt: &HostRuntime, folder: &str, user: User) -> Result<(
 }
 
 /// Whether there is a file of a folder that has bytes.
-fn has_bytes(rt: &HostRuntime, folder: &str, file: FolderFile) -> Result<bool, AllocError> {
+pub(crate) fn has_bytes(
+    rt: &HostRuntime,
+    folder: &str,
+    file: FolderFile,
+) -> Result<bool, AllocError> {
     let path = path_of(rt.alloc(), folder, file)?;
     Ok(fs::metadata(rt, &path).is_ok_and(|found| found.len() != 0))
 }
@@ -422,48 +419,15 @@ fn check_first_ledger(rt: &HostRuntime, folder: &str) -> Result<(), Hindrance> {
     Ok(())
 }
 
-/// Of how many ledgers a place tells: two numbers are the folder's, and two each ledger's.
-fn ledgers_in(place: &[u8]) -> usize {
-    let blanks = place.iter().filter(|byte| **byte == b' ').count();
-    blanks / 2
-}
-
-/// With how many ledgers a folder was used. Where it tells of no place, but its journal has something, that may be any
-/// number.
-fn used_ledgers(rt: &HostRuntime, folder: &str) -> Result<usize, Hindrance> {
-    let place = read_place(rt, folder).map_err(|fault| place_hindrance(&fault))?;
-    if let Some(place) = place {
-        Ok(ledgers_in(&place))
-    } else if has_bytes(rt, folder, FolderFile::Journal)? {
-        Ok(usize::from(MOST_KEYS))
-    } else {
-        Ok(0)
-    }
-}
-
-/// Refuses a folder that hasn't each ledger with which it was used, of the keys that it has. Where it was used is looked
-/// at first, since another process makes a ledger before it tells of it.
-fn check_later_ledgers(rt: &HostRuntime, folder: &str, count: u8) -> Result<(), Hindrance> {
-    let used = used_ledgers(rt, folder)?;
-    for number in 1..count {
-        let later = FolderFile::Ledger(number);
-        if usize::from(number) < used && !has_bytes(rt, folder, later)? {
-            return Err(Hindrance::OfFile(Refusal::Foreign, later, FileFault::Lost));
-        }
-    }
-    Ok(())
-}
-
-/// Refuses a folder that isn't this user's, or hasn't the ledgers that it had. Nothing is written.
+/// Refuses a folder that isn't this user's, or hasn't the files that it had. Nothing is written.
 pub(crate) fn check_folder(
     rt: &HostRuntime,
-    folder: &str,
-    user: User,
+    line: &Line<'_>,
     keys: &Keys,
 ) -> Result<(), Hindrance> {
-    check_user(rt, folder, user)?;
-    check_first_ledger(rt, folder)?;
-    check_later_ledgers(rt, folder, count_of(keys))
+    check_user(rt, line.dir, line.user)?;
+    check_first_ledger(rt, line.dir)?;
+    check_files(rt, line.dir, count_of(keys), line.moved)
 }
 
 /// How many keys there are.
@@ -520,177 +484,14 @@ pub(crate) fn lock_ledgers(
     Ok(locks)
 }
 
-/// The device and the number of a file on it, behind what was told before.
-fn with_place(rt: &HostRuntime, told: String, device: u64, number: u64) -> io::Result<String> {
-    if told.is_empty() {
-        return Ok(format!(in rt.alloc(); "{device} {number}")?);
-    }
-    Ok(format!(in rt.alloc(); "{told} {device} {number}")?)
-}
-
-/// Where the system has the folder and its ledgers: the devices, and their numbers on these. A copy has others, and so
-/// has a ledger that was put back.
-fn place_text(rt: &HostRuntime, folder: &str, ledgers: &[File]) -> io::Result<String> {
-    let folder = fs::metadata(rt, folder)?;
-    let mut told = with_place(rt, String::new(rt.alloc()), folder.dev(), folder.ino())?;
-    for ledger in ledgers {
-        let found = ledger.metadata()?;
-        told = with_place(rt, told, found.dev(), found.ino())?;
-    }
-    Ok(format!(in rt.alloc(); "{told}\n")?)
-}
-
-/// What a folder's file tells of its place, if there is one.
-fn read_place(rt: &HostRuntime, folder: &str) -> io::Result<Option<Vec<u8>>> {
-    let path = path_in(rt.alloc(), folder, PLACE)?;
-    match open_there(rt, &path)? {
-        Some(file) => read_first(rt, file, PLACE_SIZE).map(Some),
-        None => Ok(None),
-    }
-}
-
-/// Tells a folder its place. The file is synced before it is there: an empty one would be another place.
-fn put_place(rt: &HostRuntime, folder: &str, text: &str) -> io::Result<()> {
-    let beside = path_in(rt.alloc(), folder, PLACE_BESIDE)?;
-    let path = path_in(rt.alloc(), folder, PLACE)?;
-    written(rt, &beside, text.as_bytes())?.sync_all()?;
-    fs::rename(rt, &beside, &path)
-}
-
-/// What a fault of the system at the folder's place is told as.
-fn place_hindrance(fault: &io::Error) -> Hindrance {
-    device_hindrance(FolderFile::Place, fault)
-}
-
-/// What is told of a folder that isn't at the place at which it was used last.
-fn elsewhere() -> Hindrance {
-    Hindrance::OfFile(Refusal::Foreign, FolderFile::Place, FileFault::Elsewhere)
-}
-
-/// What a folder tells of the place at which it was used last.
-#[derive(Clone, Copy)]
-enum Last {
-    /// Nothing yet.
-    Untold,
-    /// It is the one that it has.
-    Here,
-    /// It is that, before the folder got a further ledger.
-    Fewer,
-    /// It is that, when the folder had a further ledger.
-    More,
-    /// It is another one.
-    Elsewhere,
-}
-
-/// Whether a place tells of the same ledgers as another, and then of further ones: its line goes on.
-fn goes_on(place: &[u8], other: &[u8]) -> bool {
-    match other.strip_suffix(b"\n") {
-        Some(line) => match place.strip_prefix(line) {
-            Some(rest) => rest.starts_with(b" "),
-            None => false,
-        },
-        None => false,
-    }
-}
-
-/// How the place at which a folder was used last is to the one that it has.
-fn last_of(told: &[u8], own: &[u8]) -> Last {
-    if told == own {
-        Last::Here
-    } else if goes_on(own, told) {
-        Last::Fewer
-    } else if ledgers_in(own) != 0 && goes_on(told, own) {
-        Last::More
-    } else {
-        Last::Elsewhere
-    }
-}
-
-/// What a folder tells of the place at which it was used last, beside the one that it has.
-fn last_place(rt: &HostRuntime, folder: &str, own: &str) -> Result<Last, Hindrance> {
-    match read_place(rt, folder) {
-        Ok(Some(told)) => Ok(last_of(&told, own.as_bytes())),
-        Ok(None) => Ok(Last::Untold),
-        Err(fault) => Err(place_hindrance(&fault)),
-    }
-}
-
-/// The place that a folder has, with the ledgers that are open.
-fn own_place(rt: &HostRuntime, folder: &str, ledgers: &[File]) -> Result<String, Hindrance> {
-    place_text(rt, folder, ledgers).map_err(|fault| place_hindrance(&fault))
-}
-
-/// Refuses a folder whose place isn't the one at which it was used last: it is a copy, or was put back, and would sign
-/// with leaves that were used; or a seed is gone.
-fn check_last(own: &str, last: Last) -> Result<(), Hindrance> {
-    match last {
-        Last::Untold | Last::Here | Last::Fewer => Ok(()),
-        Last::More => {
-            let next = u8::try_from(ledgers_in(own.as_bytes())).unwrap_or(MOST_KEYS);
-            Err(Hindrance::NoKeys(FolderFile::Seed(next), FileFault::SeedGone))
-        }
-        Last::Elsewhere => Err(elsewhere()),
-    }
-}
-
-/// Refuses a folder that isn't at the place at which it was used last, unless it says that it was moved, and gives the
-/// place that it has.
-pub(crate) fn check_place(
-    rt: &HostRuntime,
-    folder: &str,
-    ledgers: &[File],
-    moved: bool,
-) -> Result<String, Hindrance> {
-    let own = own_place(rt, folder, ledgers)?;
-    let last = last_place(rt, folder, &own)?;
-    if !moved {
-        check_last(&own, last)?;
-    }
-    Ok(own)
-}
-
-/// Tells a folder its place, where it doesn't tell that already. Only then leaves are taken.
-pub(crate) fn tell_place(rt: &HostRuntime, folder: &str, own: &str) -> Result<(), Hindrance> {
-    match last_place(rt, folder, own)? {
-        Last::Here => Ok(()),
-        _ => put_place(rt, folder, own).map_err(|fault| place_hindrance(&fault)),
-    }
-}
-
 /// A file of a folder, if there is one.
-fn open_present(
+pub(crate) fn open_present(
     rt: &HostRuntime,
     folder: &str,
     file: FolderFile,
 ) -> Result<Option<File>, Hindrance> {
     let path = path_of(rt.alloc(), folder, file)?;
     open_there(rt, &path).map_err(|fault| device_hindrance(file, &fault))
-}
-
-/// The files of the ledgers that there are, the first one first, up to one that isn't there.
-fn open_ledgers(rt: &HostRuntime, folder: &str, keys: &Keys) -> Result<Vec<File>, Hindrance> {
-    let mut ledgers = Vec::new(rt.alloc());
-    for number in 0..count_of(keys) {
-        match open_present(rt, folder, FolderFile::Ledger(number))? {
-            Some(ledger) => ledgers.push(ledger)?,
-            None => break,
-        }
-    }
-    Ok(ledgers)
-}
-
-/// Refuses a folder as `check_place` does, and locks nothing.
-pub(crate) fn look_at_place(
-    rt: &HostRuntime,
-    folder: &str,
-    keys: &Keys,
-    moved: bool,
-) -> Result<(), Hindrance> {
-    // Without its ledger a folder isn't at the place that it tells of.
-    let ledgers = open_ledgers(rt, folder, keys)?;
-    let own = check_place(rt, folder, &ledgers, moved)?;
-    let_go(own);
-    Ok(())
 }
 
 /// What a file of a folder holds; nothing where there is none.

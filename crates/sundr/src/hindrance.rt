@@ -69,6 +69,10 @@ const IN_USE: &str = "in use: another sundr works in this folder, wait until it 
 const ELSEWHERE: &str =
     "the folder was used last at another place, so it is a copy, or was put back, and would sign again with what is used up: never go on with one; if it was only moved, say --moved once";
 
+/// What is told of a file that isn't a place.
+const NO_PLACE: &str =
+    "not a place as this sundr writes it: it was changed, cut short, or is of another version; if the folder is no copy, and wasn't put back, say --moved once";
+
 /// What is told of a file without a change.
 const NO_CHANGE: &str = "no change is in it: a line each of adduser, setkey, addmember, dropmember";
 
@@ -79,6 +83,10 @@ const GONE: &str =
 /// What is told of a later one.
 const LOST: &str =
     "gone or empty, though the folder was used with it: a new one would sign again with what is used up; put it back, no older copy, or make a new folder";
+
+/// What is told of a journal.
+const FORGOTTEN: &str =
+    "gone or empty, though the folder was used with it: with a new one another text would be signed in the place of one that was; put it back, no older copy, or make a new folder";
 
 /// What is told of a ledger without its seed.
 const SEEDLESS: &str =
@@ -131,6 +139,8 @@ pub(crate) enum FileFault {
     Gone,
     /// It has nothing, but once had: the folder tells where it was.
     Lost,
+    /// It has nothing, but once had what was signed: the folder tells where it was.
+    Forgotten,
     /// It is gone, but the folder tells that there was a ledger beside it.
     SeedGone,
     /// It is there without its seed.
@@ -143,6 +153,8 @@ pub(crate) enum FileFault {
     NoChange,
     /// It isn't a user's number.
     NoNumber,
+    /// It tells of no place.
+    NoPlace,
     /// It tells of another place.
     Elsewhere,
 }
@@ -187,11 +199,13 @@ impl FileFault {
             FileFault::InUse => IN_USE,
             FileFault::NoLocks => "can't be locked: keep the folder on a disk of this machine",
             FileFault::NoNumber => "not a user's number, 0 to 63",
+            FileFault::NoPlace => NO_PLACE,
             FileFault::Elsewhere => ELSEWHERE,
             FileFault::NoText => "not text in UTF-8",
             FileFault::NoChange => NO_CHANGE,
             FileFault::Gone => GONE,
             FileFault::Lost => LOST,
+            FileFault::Forgotten => FORGOTTEN,
             FileFault::SeedGone => "gone, though the folder was used with it: put it back",
             FileFault::Seedless => SEEDLESS,
             FileFault::OfOtherSeed => OF_OTHER_SEED,

@@ -4,8 +4,9 @@ use crate::folder::{
     MOST_KEYS, OWNERS_ALONE, content_hindrance, device_hindrance, hindrance_of, path_of, read_first,
 };
 use crate::hindrance::{FileFault, FolderFile, Hindrance};
+use crate::place::new_place;
 use commands::Refusal;
-use drawn_key::drawn_key;
+use drawn_key::{LEDGER_SIZE, drawn_key};
 use file_commands::NewFolder;
 use hex::FromHex;
 use layout::{User, digest, let_go};
@@ -38,6 +39,9 @@ const FILES: [FolderFile; 4] = [
     FolderFile::Journal,
     FolderFile::Place,
 ];
+
+/// What a journal without a record holds: a gate that is closed.
+const NEW_JOURNAL: [u8; 1] = [0];
 
 /// A folder that was made: whose it is, the user's public key, and user 0's.
 #[derive(Clone, Copy)]
@@ -238,7 +242,24 @@ fn make_files(
     }
 }
 
-/// Makes the folder and its files. The seed comes last: where it is, all are.
+/// What the ledger of a key holds of which no leaf is used: the key, and a mark of zero for each leaf.
+pub(crate) fn new_ledger(key: &PublicKey) -> [u8; LEDGER_SIZE] {
+    let mut ledger = [0; LEDGER_SIZE];
+    ledger[..KEY_SIZE].copy_from_slice(key.as_bytes());
+    ledger
+}
+
+/// Makes the file of the folder's place, and then the seed: where it is, all are.
+fn make_last(rt: &HostRuntime, folder: &str, seed: &SeedBytes) -> Result<(), Hindrance> {
+    let place = new_place(rt, folder)?;
+    let files: [(FolderFile, &[u8]); 2] = [
+        (FolderFile::Place, place.as_bytes()),
+        (FolderFile::Seed(0), seed),
+    ];
+    make_files(rt, folder, &files)
+}
+
+/// Makes the folder and its files, the seed as the last one.
 fn make_all(
     rt: &HostRuntime,
     folder: &str,
@@ -248,12 +269,19 @@ fn make_all(
     make_folder(rt, folder)?;
     let user = made.user.get();
     let number = format!(in rt.alloc(); "{user}\n")?;
-    let files: [(FolderFile, &[u8]); 3] = [
+    let (ledger, journal) = (new_ledger(&made.own), NEW_JOURNAL);
+    let files: [(FolderFile, &[u8]); 4] = [
         (FolderFile::SuperKey, made.super_key.as_bytes()),
         (FolderFile::User, number.as_bytes()),
-        (FolderFile::Seed(0), seed),
+        (FolderFile::Ledger(0), &ledger),
+        (FolderFile::Journal, &journal),
     ];
-    make_files(rt, folder, &files)
+    make_files(rt, folder, &files)?;
+    let last = make_last(rt, folder, seed);
+    if last.is_err() {
+        unmake_first(rt, folder, &files, files.len());
+    }
+    last
 }
 
 /// Makes a user's folder with a new key. Where that can't be done, it has no seed.

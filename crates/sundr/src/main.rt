@@ -9,6 +9,7 @@ mod defaults;
 mod folder;
 mod hindrance;
 mod init;
+mod place;
 mod reaching;
 mod reason;
 mod renewing;
@@ -24,9 +25,9 @@ use drawn_key::drawn_key;
 use file_commands::{Line, LineError, NewFolder, Request, Wanted};
 use file_session::{Resumed, Session, refusal_of};
 use folder::{
-    Keys, Seed, check_folder, check_ledger, check_place, check_target, check_user, keep_blocks,
-    keep_leaves, lock_ledgers, open_device, read_blocks, read_content, read_kept, read_keys,
-    read_seeds, tell_place, write_content,
+    Keys, Seed, check_folder, check_ledger, check_target, check_user, keep_blocks, keep_leaves,
+    lock_ledgers, open_device, read_blocks, read_content, read_kept, read_keys, read_seeds,
+    write_content,
 };
 use hindrance::{FileFault, FolderFile, Hindrance};
 use init::{init, print_made};
@@ -34,6 +35,7 @@ use kept_blocks::{Keeping, KeptBlocks};
 use layout::{User, let_go};
 use leaf_ledger::{Device, FileDevice};
 use lms_sign::{PrivateKey, PublicKey};
+use place::{check_place, tell_place};
 use reaching::{Reach, Server, Stream};
 use reason::{Reason, reason_of_answer, reason_of_hindrance, reason_of_unmade};
 use renewing::{Renewed, print_renewed, renew, tell_next};
@@ -179,7 +181,7 @@ pub(crate) fn lock_and_open<H: Threads + Sync>(
     line: &Line<'_>,
     keys: &Keys,
 ) -> Result<Opened, Hindrance> {
-    check_folder(rt, line.dir, line.user, keys)?;
+    check_folder(rt, line, keys)?;
     let locks = lock_ledgers(rt, line.dir, line.user, keys)?;
     let place = check_place(rt, line.dir, &locks, line.moved)?;
     let client = open_client(rt, host, line, keys)?;

@@ -5,7 +5,8 @@ use crate::folder::{
 };
 use crate::hindrance::{FileFault, FolderFile, Hindrance, RenewalFault};
 use crate::init::{
-    Fingerprint, SeedBytes, key_of_seed, make_file, no_folder, random_seed, sync_folder, unmake,
+    Fingerprint, SeedBytes, key_of_seed, make_file, new_ledger, no_folder, random_seed,
+    sync_folder, unmake,
 };
 use crate::standing::free_leaves;
 use crate::{Opened, OwnClient, lock_and_open};
@@ -122,7 +123,7 @@ fn check_unused(rt: &HostRuntime, folder: &str, number: u8) -> Result<(), Hindra
 }
 
 /// Makes a file of the owner's alone with these bytes beside its place, and moves it there.
-fn move_in(rt: &HostRuntime, beside: &str, path: &str, bytes: &[u8]) -> io::Result<()> {
+pub(crate) fn move_in(rt: &HostRuntime, beside: &str, path: &str, bytes: &[u8]) -> io::Result<()> {
     // What a renewal left that was stopped.
     let _ = fs::remove_file(rt, beside);
     make_file(rt, beside, bytes)?;
@@ -155,9 +156,7 @@ fn make_both(
     key: &PublicKey,
     seed: &SeedBytes,
 ) -> Result<(), Hindrance> {
-    let mut ledger = [0; LEDGER_SIZE];
-    ledger[..KEY_SIZE].copy_from_slice(key.as_bytes());
-    make_whole(rt, folder, FolderFile::Ledger(number), &ledger)?;
+    make_whole(rt, folder, FolderFile::Ledger(number), &new_ledger(key))?;
     let made = make_whole(rt, folder, FolderFile::Seed(number), seed);
     if made.is_err() {
         unmake(rt, folder, FolderFile::Seed(number));

@@ -3,10 +3,9 @@
 
 ghost use Rattle.std.specs.Prelude.{◌≡◌, ◌==◌, length, filter};
 
-use crate::folder::{
-    Keys, Seed, check_folder, check_ledger, look_at_place, read_device, read_kept, read_keys,
-};
+use crate::folder::{Keys, Seed, check_folder, check_ledger, read_device, read_kept, read_keys};
 use crate::hindrance::{FolderFile, Hindrance};
+use crate::place::look_at_place;
 use crate::{OwnKeys, client_over};
 use client_verify::{Client, Phase};
 use drawn_key::drawn_key;
@@ -155,7 +154,7 @@ pub(crate) fn read_standing<H: Threads + Sync>(
     line: &Line<'_>,
 ) -> Result<Standing, Hindrance> {
     let keys = read_keys(rt, line.dir, line.user)?;
-    check_folder(rt, line.dir, line.user, &keys)?;
+    check_folder(rt, line, &keys)?;
     look_at_place(rt, line.dir, &keys, line.moved)?;
     let client = read_client(rt, host, line, &keys)?;
     Ok(Standing::of(rt.alloc(), client)?)

@@ -1,0 +1,351 @@
+//! The place of a folder: by which numbers the system has it and its ledgers. A copy has others, and so has what was put
+//! back.
+
+use crate::folder::{
+    Keys, MOST_KEYS, count_of, device_hindrance, has_bytes, open_present, open_there, path_of,
+    read_first,
+};
+use crate::hindrance::{FileFault, FolderFile, Hindrance};
+use crate::renewing::move_in;
+use commands::Refusal;
+use layout::let_go;
+use std::fs::{self, File, Metadata};
+use std::io;
+use std::os::unix::fs::MetadataExt;
+use std::time::UNIX_EPOCH;
+
+/// The words that the line of a place begins with: the last one is its version.
+const HEAD: &str = "sundr place 1";
+
+/// How many blanks these words have.
+const HEAD_BLANKS: usize = 2;
+
+/// How many numbers a place has of the folder, and how many of each ledger: the device, the file's number on it, and when
+/// it was made.
+const NUMBERS: usize = 3;
+
+/// How much is read of the file of a place: more than a line of all numbers has.
+const PLACE_SIZE: u64 = 2048;
+
+/// The greatest size of a journal without a record.
+const NEW_JOURNAL: u64 = 1;
+
+/// What is told where a folder that was used gets its first place.
+const LATE: &str = "is written: from now on a copy of the folder is refused";
+
+/// When a file was made, in nanoseconds since 1970; 0 where its file system doesn't tell.
+fn made_at(found: &Metadata) -> u128 {
+    let Ok(made) = found.created() else {
+        return 0;
+    };
+    match made.duration_since(UNIX_EPOCH) {
+        Ok(since) => since.as_nanos(),
+        Err(_) => 0,
+    }
+}
+
+/// The numbers of a file, behind what was told before.
+fn with_file(rt: &HostRuntime, told: String, found: &Metadata) -> io::Result<String> {
+    let (device, number, made) = (found.dev(), found.ino(), made_at(found));
+    Ok(format!(in rt.alloc(); "{told} {device} {number} {made}")?)
+}
+
+/// The place that the system has a folder and its ledgers at.
+fn place_text(rt: &HostRuntime, folder: &str, ledgers: &[File]) -> io::Result<String> {
+    let found = fs::metadata(rt, folder)?;
+    let mut told = with_file(rt, format!(in rt.alloc(); "{HEAD}")?, &found)?;
+    for ledger in ledgers {
+        let found = ledger.metadata()?;
+        told = with_file(rt, told, &found)?;
+    }
+    Ok(format!(in rt.alloc(); "{told}\n")?)
+}
+
+/// How many numbers a place has.
+fn count_in(place: &[u8]) -> usize {
+    let blanks = place.iter().filter(|byte| **byte == b' ').count();
+    blanks.saturating_sub(HEAD_BLANKS)
+}
+
+/// Of how many ledgers a place tells, beside the folder.
+fn ledgers_in(place: &[u8]) -> usize {
+    (count_in(place) / NUMBERS).saturating_sub(1)
+}
+
+/// Whether a word is a number in decimal digits.
+fn is_number(word: &str) -> bool {
+    !word.is_empty() && word.bytes().all(|byte| byte.is_ascii_digit())
+}
+
+/// The numbers of a text, if it is the line of a place.
+fn numbers_of(text: &[u8]) -> Option<&str> {
+    let text = std::str::from_utf8(text).ok()?;
+    text.strip_prefix(HEAD)?
+        .strip_prefix(" ")?
+        .strip_suffix("\n")
+}
+
+/// Whether a text is a place: of a folder, and of one ledger at least.
+fn is_place(text: &[u8]) -> bool {
+    match numbers_of(text) {
+        Some(numbers) => {
+            numbers.split(' ').all(is_number)
+                && count_in(text) % NUMBERS == 0
+                && ledgers_in(text) != 0
+        }
+        None => false,
+    }
+}
+
+/// What the file of a folder's place holds, if there is one.
+fn read_place(rt: &HostRuntime, folder: &str) -> io::Result<Option<Vec<u8>>> {
+    let path = path_of(rt.alloc(), folder, FolderFile::Place)?;
+    match open_there(rt, &path)? {
+        Some(file) => read_first(rt, file, PLACE_SIZE).map(Some),
+        None => Ok(None),
+    }
+}
+
+/// What a fault of the system at the folder's place is told as.
+fn place_hindrance(fault: &io::Error) -> Hindrance {
+    device_hindrance(FolderFile::Place, fault)
+}
+
+/// What is told of a place that doesn't fit its folder.
+fn foreign(fault: FileFault) -> Hindrance {
+    Hindrance::OfFile(Refusal::Foreign, FolderFile::Place, fault)
+}
+
+/// The place at which a folder tells that it was used last, if it does. A file that is none is refused; where the folder is
+/// said to be moved it tells nothing.
+fn told_place(rt: &HostRuntime, folder: &str, moved: bool) -> Result<Option<Vec<u8>>, Hindrance> {
+    let told = read_place(rt, folder).map_err(|fault| place_hindrance(&fault))?;
+    let is_whole = match &told {
+        Some(text) => is_place(text),
+        None => true,
+    };
+    if is_whole {
+        Ok(told)
+    } else if moved {
+        Ok(None)
+    } else {
+        Err(foreign(FileFault::NoPlace))
+    }
+}
+
+/// Refuses a folder without a file with which it was used.
+fn check_used(
+    rt: &HostRuntime,
+    folder: &str,
+    file: FolderFile,
+    lost: FileFault,
+) -> Result<(), Hindrance> {
+    if has_bytes(rt, folder, file)? {
+        return Ok(());
+    }
+    Err(Hindrance::OfFile(Refusal::Foreign, file, lost))
+}
+
+/// Refuses a folder of so many keys that hasn't each of the ledgers, so many, with which it was used.
+fn check_ledgers(rt: &HostRuntime, folder: &str, count: u8, used: usize) -> Result<(), Hindrance> {
+    for number in 0..count {
+        if usize::from(number) < used {
+            check_used(rt, folder, FolderFile::Ledger(number), FileFault::Lost)?;
+        }
+    }
+    Ok(())
+}
+
+/// Refuses a folder that hasn't each ledger and the journal with which it was used. Where it tells of no place, but its
+/// journal has something, it may have been used with any ledger. Its place is looked at first, since another process makes
+/// these files before it tells of them.
+pub(crate) fn check_files(
+    rt: &HostRuntime,
+    folder: &str,
+    count: u8,
+    moved: bool,
+) -> Result<(), Hindrance> {
+    let told = told_place(rt, folder, moved)?;
+    if let Some(place) = told {
+        check_ledgers(rt, folder, count, ledgers_in(&place))?;
+        check_used(rt, folder, FolderFile::Journal, FileFault::Forgotten)
+    } else if has_bytes(rt, folder, FolderFile::Journal)? {
+        check_ledgers(rt, folder, count, usize::from(MOST_KEYS))
+    } else {
+        Ok(())
+    }
+}
+
+/// How the place at which a folder was used last is to the one that it has.
+#[derive(Clone, Copy)]
+enum Last {
+    /// There is none.
+    Untold,
+    /// It is the one that it has.
+    Here,
+    /// It is that, before the folder got a further ledger.
+    Fewer,
+    /// It is that, when the folder had a further ledger.
+    More,
+    /// It is another one.
+    Elsewhere,
+}
+
+/// Whether a place tells of the same ledgers as another, and then of further ones: its line goes on.
+fn goes_on(place: &[u8], other: &[u8]) -> bool {
+    match other.strip_suffix(b"\n") {
+        Some(line) => match place.strip_prefix(line) {
+            Some(rest) => rest.starts_with(b" "),
+            None => false,
+        },
+        None => false,
+    }
+}
+
+/// How the place at which a folder was used last is to the one that it has.
+fn last_of(told: &[u8], own: &[u8]) -> Last {
+    if told == own {
+        Last::Here
+    } else if goes_on(own, told) {
+        Last::Fewer
+    } else if ledgers_in(own) != 0 && goes_on(told, own) {
+        Last::More
+    } else {
+        Last::Elsewhere
+    }
+}
+
+/// How the place at which a folder tells that it was used last is to the one that it has.
+fn last_place(rt: &HostRuntime, folder: &str, own: &str, moved: bool) -> Result<Last, Hindrance> {
+    match told_place(rt, folder, moved)? {
+        Some(told) => Ok(last_of(&told, own.as_bytes())),
+        None => Ok(Last::Untold),
+    }
+}
+
+/// Refuses a folder whose place isn't the one at which it was used last: it is a copy, or was put back, and would sign
+/// with leaves that were used; or a seed is gone.
+fn check_last(own: &str, last: Last) -> Result<(), Hindrance> {
+    match last {
+        Last::Untold | Last::Here | Last::Fewer => Ok(()),
+        Last::More => {
+            let next = u8::try_from(ledgers_in(own.as_bytes())).unwrap_or(MOST_KEYS);
+            Err(Hindrance::NoKeys(FolderFile::Seed(next), FileFault::SeedGone))
+        }
+        Last::Elsewhere => Err(foreign(FileFault::Elsewhere)),
+    }
+}
+
+/// What has to be done so that a folder tells its place.
+#[derive(Clone, Copy)]
+enum Telling {
+    /// Nothing.
+    Told,
+    /// Its file is written.
+    Untold,
+    /// Its file is written, and that is told, since the folder was used without it.
+    Late,
+}
+
+/// The place that a folder has, and what has to be done so that the folder tells it.
+#[derive(Drop)]
+pub(crate) struct Place {
+    text: String,
+    telling: Telling,
+}
+
+/// Whether a folder was used: its journal has more than a gate.
+fn was_used(rt: &HostRuntime, folder: &str) -> Result<bool, Hindrance> {
+    let path = path_of(rt.alloc(), folder, FolderFile::Journal)?;
+    Ok(fs::metadata(rt, &path).is_ok_and(|found| found.len() > NEW_JOURNAL))
+}
+
+/// What has to be done so that a folder tells the place that it has. One that isn't at the place at which it was used last
+/// is refused, unless it is said to be moved.
+fn telling_of(
+    rt: &HostRuntime,
+    folder: &str,
+    own: &str,
+    moved: bool,
+) -> Result<Telling, Hindrance> {
+    let last = last_place(rt, folder, own, moved)?;
+    if !moved {
+        check_last(own, last)?;
+    }
+    match last {
+        Last::Here => Ok(Telling::Told),
+        Last::Untold if was_used(rt, folder)? => Ok(Telling::Late),
+        _ => Ok(Telling::Untold),
+    }
+}
+
+/// The place that a folder has, with the ledgers that are open.
+fn own_place(rt: &HostRuntime, folder: &str, ledgers: &[File]) -> Result<String, Hindrance> {
+    place_text(rt, folder, ledgers).map_err(|fault| place_hindrance(&fault))
+}
+
+/// Refuses a folder that isn't at the place at which it was used last, unless it is said to be moved, and gives the place
+/// that it has.
+pub(crate) fn check_place(
+    rt: &HostRuntime,
+    folder: &str,
+    ledgers: &[File],
+    moved: bool,
+) -> Result<Place, Hindrance> {
+    let text = own_place(rt, folder, ledgers)?;
+    let telling = telling_of(rt, folder, &text, moved)?;
+    Ok(Place { text, telling })
+}
+
+/// Puts the file of a folder's place there, which is there whole or as it was, and syncs the folder.
+fn put_place(rt: &HostRuntime, folder: &str, text: &str) -> io::Result<()> {
+    let path = path_of(rt.alloc(), folder, FolderFile::Place)?;
+    let beside = format!(in rt.alloc(); "{path}.new")?;
+    move_in(rt, &beside, &path, text.as_bytes())?;
+    File::open(rt, folder)?.sync_all()
+}
+
+/// Tells a folder its place, where it doesn't tell that already. Only then leaves are taken.
+pub(crate) fn tell_place(rt: &HostRuntime, folder: &str, place: &Place) -> Result<(), Hindrance> {
+    if matches!(place.telling, Telling::Told) {
+        return Ok(());
+    }
+    put_place(rt, folder, &place.text).map_err(|fault| place_hindrance(&fault))?;
+    if matches!(place.telling, Telling::Late) {
+        let file = FolderFile::Place;
+        let _ = eprintln!(rt; "sundr: {folder}/{file}: {LATE}");
+    }
+    Ok(())
+}
+
+/// The files of the ledgers that there are of so many keys, the first one first, up to one that isn't there.
+fn open_ledgers(rt: &HostRuntime, folder: &str, count: u8) -> Result<Vec<File>, Hindrance> {
+    let mut ledgers = Vec::new(rt.alloc());
+    for number in 0..count {
+        match open_present(rt, folder, FolderFile::Ledger(number))? {
+            Some(ledger) => ledgers.push(ledger)?,
+            None => break,
+        }
+    }
+    Ok(ledgers)
+}
+
+/// The place of a folder whose first ledger was made.
+pub(crate) fn new_place(rt: &HostRuntime, folder: &str) -> Result<String, Hindrance> {
+    let ledgers = open_ledgers(rt, folder, 1)?;
+    own_place(rt, folder, &ledgers)
+}
+
+/// Refuses a folder as `check_place` does, and locks nothing.
+pub(crate) fn look_at_place(
+    rt: &HostRuntime,
+    folder: &str,
+    keys: &Keys,
+    moved: bool,
+) -> Result<(), Hindrance> {
+    // Without its ledger a folder isn't at the place that it tells of.
+    let ledgers = open_ledgers(rt, folder, count_of(keys))?;
+    let place = check_place(rt, folder, &ledgers, moved)?;
+    let_go(place);
+    Ok(())
+}
