@@ -10,7 +10,9 @@ use itable::FILE_SIZE;
 use kept_blocks::{KeptBlocks, MOST_BLOCKS, MOST_BYTES};
 use layout::{Memory, Text, User};
 use leaf_ledger::{FileDevice, MemoryDevice};
-use lms_sign::{ID_SIZE, KEPT_SIZE, KEY_SIZE, PrivateKey, PublicKey, SEED_SIZE};
+use lms_sign::{
+    ID_SIZE, KEPT_SIZE, KEY_SIZE, PrivateKey, PublicKey, SEED_SIZE, SIGNATURE_SIZE, verify,
+};
 use std::alloc::{AllocError, Global};
 use std::fs::{self, File, OpenOptions, TryLockError};
 use std::io::{self, ErrorKind, Read, Write};
@@ -33,6 +35,12 @@ const BLOCKS: &str = "blocks";
 
 /// How many bytes it has at most: a tag and a count; of each block its digest, its size and its bytes.
 const BLOCKS_SIZE: usize = 6 + MOST_BLOCKS * (34 + MOST_BYTES);
+
+/// How many bytes a record of a journal has before its text: its gate, its kind, and the text's size.
+const RECORD_HEAD: usize = 6;
+
+/// The gate of a record that is there.
+const OPEN: u8 = 1;
 
 /// The mode of a file that its owner alone reads and writes.
 pub(crate) const OWNERS_ALONE: u32 = 0o600;
@@ -224,21 +232,75 @@ pub(crate) fn read_keys(rt: &HostRuntime, folder: &str, user: User) -> Result<Ke
     Ok(Keys { seeds, pinned })
 }
 
-/// Refuses the ledger of a seed that has something, and isn't a whole one of its key.
+/// The first signed text of a journal's records, and those behind it, if there is one.
+fn first_signed(records: &[u8]) -> Option<(&[u8], &[u8])> {
+    let (head, rest) = records.split_at(RECORD_HEAD.min(records.len()));
+    let [OPEN, _kind, a, b, c, d] = head else {
+        return None;
+    };
+    let size = u32::from_be_bytes([*a, *b, *c, *d]) as usize;
+    if size > rest.len() {
+        return None;
+    }
+    Some(rest.split_at(size))
+}
+
+/// The text that was signed last by a journal, with its signature; nothing where it has none.
+pub(crate) fn last_signed(journal: &[u8]) -> &[u8] {
+    let (mut rest, mut last) = (journal, &journal[..0]);
+    for _ in 0..journal.len() {
+        match first_signed(rest) {
+            Some((signed, behind)) => {
+                last = signed;
+                rest = behind;
+            }
+            None => break,
+        }
+    }
+    last
+}
+
+/// The number of the leaf that a signature is of, which it begins with.
+fn leaf_of(signature: &[u8]) -> Option<usize> {
+    match signature {
+        [a, b, c, d, ..] => Some(u32::from_be_bytes([*a, *b, *c, *d]) as usize),
+        _ => None,
+    }
+}
+
+/// Whether a leaf is free by a ledger.
+fn is_free(ledger: &[u8], leaf: usize) -> bool {
+    let marks = &ledger[KEY_SIZE.min(ledger.len())..];
+    matches!(marks.get(leaf), Some(0))
+}
+
+/// Whether a leaf is free by the ledger of a key that signed this text with it.
+fn forgets(ledger: &[u8], key: &PublicKey, signed: &[u8]) -> bool {
+    let (text, signature) = signed.split_at(signed.len().saturating_sub(SIGNATURE_SIZE));
+    match leaf_of(signature) {
+        Some(leaf) => is_free(ledger, leaf) && verify(key, text, signature),
+        None => false,
+    }
+}
+
+/// Refuses the ledger of a seed that has something, and isn't a whole one of its key; and one in which the leaf is free by
+/// which the key signed the text that was signed last.
 pub(crate) fn check_ledger(
     number: u8,
     ledger: &[u8],
     key: &PrivateKey<Global>,
+    last: &[u8],
 ) -> Result<(), Hindrance> {
-    let is_its = ledger.len() == LEDGER_SIZE && ledger.starts_with(key.public().as_bytes());
-    if ledger.is_empty() || is_its {
+    let public = key.public();
+    let is_its = ledger.len() == LEDGER_SIZE && ledger.starts_with(public.as_bytes());
+    let fault = if !ledger.is_empty() && !is_its {
+        FileFault::OfOtherSeed
+    } else if forgets(ledger, &public, last) {
+        FileFault::Older
+    } else {
         return Ok(());
-    }
-    Err(Hindrance::OfFile(
-        Refusal::Foreign,
-        FolderFile::Ledger(number),
-        FileFault::OfOtherSeed,
-    ))
+    };
+    Err(Hindrance::OfFile(Refusal::Foreign, FolderFile::Ledger(number), fault))
 }
 
 /// The bytes of a file of a key beside its seed, if it can be read and has just so many.

@@ -96,6 +96,10 @@ const SEEDLESS: &str =
 const OF_OTHER_SEED: &str =
     "not whole, or not of the seed beside it: are files of two folders mixed?";
 
+/// What is told of a ledger that is older than the journal.
+const OLDER: &str =
+    "an older one: a leaf is free in it by which the key signed what the journal has last, so it was put back, and would sign again with what is used up; put the newest one back, or make a new folder";
+
 /// What is told of a seed that was copied.
 const TWIN: &str =
     "has the identifier of a seed before it, so that both would sign with the same leaves: move this file and its ledger out of the folder";
@@ -145,6 +149,8 @@ pub(crate) enum FileFault {
     SeedGone,
     /// It is there without its seed.
     Seedless,
+    /// It is of a time before the journal's last text.
+    Older,
     /// It isn't whole, or is another key's.
     OfOtherSeed,
     /// It has no text of UTF-8.
@@ -208,6 +214,7 @@ impl FileFault {
             FileFault::Forgotten => FORGOTTEN,
             FileFault::SeedGone => "gone, though the folder was used with it: put it back",
             FileFault::Seedless => SEEDLESS,
+            FileFault::Older => OLDER,
             FileFault::OfOtherSeed => OF_OTHER_SEED,
         }
     }

@@ -26,8 +26,8 @@ use file_commands::{Line, LineError, NewFolder, Request, Wanted};
 use file_session::{Resumed, Session, refusal_of};
 use folder::{
     Keys, Seed, check_folder, check_ledger, check_target, check_user, keep_blocks, keep_leaves,
-    lock_ledgers, open_device, read_blocks, read_content, read_kept, read_keys, read_seeds,
-    write_content,
+    last_signed, lock_ledgers, open_device, read_blocks, read_content, read_kept, read_keys,
+    read_seeds, write_content,
 };
 use hindrance::{FileFault, FolderFile, Hindrance};
 use init::{init, print_made};
@@ -123,18 +123,19 @@ fn own_key<H: Threads + Sync>(
     Ok(key)
 }
 
-/// The keys of these seeds, each with the device of its ledger.
+/// The keys of these seeds, each with the device of its ledger. What was signed last is signed with a leaf that is used.
 fn own_keys<H: Threads + Sync>(
     rt: &HostRuntime,
     host: &H,
     folder: &str,
     keys: &Keys,
+    last: &[u8],
 ) -> Result<OwnKeys<FileDevice<Global>>, Hindrance> {
     let mut own = Vec::new(rt.alloc());
     for seed in &keys.seeds {
         let ledger = open_device(rt, folder, FolderFile::Ledger(seed.number))?;
         let key = own_key(rt, host, folder, seed)?;
-        check_ledger(seed.number, ledger.text(), &key)?;
+        check_ledger(seed.number, ledger.text(), &key, last)?;
         own.push((key, ledger))?;
     }
     Ok(own)
@@ -170,7 +171,7 @@ fn open_client<H: Threads + Sync>(
     keys: &Keys,
 ) -> Result<OwnClient, Hindrance> {
     let journal = open_device(rt, line.dir, FolderFile::Journal)?;
-    let own = own_keys(rt, host, line.dir, keys)?;
+    let own = own_keys(rt, host, line.dir, keys, last_signed(journal.text()))?;
     client_over(rt.alloc(), line.user, keys, own, journal)
 }
 

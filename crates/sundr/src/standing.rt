@@ -3,7 +3,9 @@
 
 ghost use Rattle.std.specs.Prelude.{◌≡◌, ◌==◌, length, filter};
 
-use crate::folder::{Keys, Seed, check_folder, check_ledger, read_device, read_kept, read_keys};
+use crate::folder::{
+    Keys, Seed, check_folder, check_ledger, last_signed, read_device, read_kept, read_keys,
+};
 use crate::hindrance::{FolderFile, Hindrance};
 use crate::place::look_at_place;
 use crate::{OwnKeys, client_over};
@@ -117,18 +119,20 @@ fn key_unkept<H: Threads + Sync>(
     Ok(drawn_key(host, rt.alloc(), seed.seed, seed.id)?)
 }
 
-/// The keys of these seeds, each with what its ledger's file holds.
+/// The keys of these seeds, each with what its ledger's file holds. What was signed last is signed with a leaf that is
+/// used.
 fn read_own<H: Threads + Sync>(
     rt: &HostRuntime,
     host: &H,
     folder: &str,
     keys: &Keys,
+    last: &[u8],
 ) -> Result<OwnKeys<MemoryDevice<Global>>, Hindrance> {
     let mut own = Vec::new(rt.alloc());
     for seed in &keys.seeds {
         let ledger = read_device(rt, folder, FolderFile::Ledger(seed.number))?;
         let key = key_unkept(rt, host, folder, seed)?;
-        check_ledger(seed.number, ledger.text(), &key)?;
+        check_ledger(seed.number, ledger.text(), &key, last)?;
         own.push((key, ledger))?;
     }
     Ok(own)
@@ -142,7 +146,7 @@ fn read_client<H: Threads + Sync>(
     keys: &Keys,
 ) -> Result<ReadClient, Hindrance> {
     let journal = read_device(rt, line.dir, FolderFile::Journal)?;
-    let own = read_own(rt, host, line.dir, keys)?;
+    let own = read_own(rt, host, line.dir, keys, last_signed(journal.text()))?;
     client_over(rt.alloc(), line.user, keys, own, journal)
 }
 
