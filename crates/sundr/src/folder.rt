@@ -500,8 +500,8 @@ pub(crate) fn count_of(keys: &Keys) -> u8 {
     }
 }
 
-/// Locks a ledger's file: while the handle is open, no other process is given the lock. Where the system has no locks
-/// that is refused, since two processes would sign with one leaf.
+/// Locks a ledger's file: while the handle is open, no other process is given the lock. Where the system gives none, for
+/// whatever cause, that is refused, since two processes would sign with one leaf.
 fn lock_ledger(rt: &HostRuntime, folder: &str, number: u8) -> Result<File, Hindrance> {
     let ledger = FolderFile::Ledger(number);
     let path = path_of(rt.alloc(), folder, ledger)?;
@@ -516,8 +516,8 @@ fn lock_ledger(rt: &HostRuntime, folder: &str, number: u8) -> Result<File, Hindr
         Err(TryLockError::WouldBlock) => {
             Err(Hindrance::OfFile(Refusal::Device, ledger, FileFault::InUse))
         }
-        Err(TryLockError::Error(fault)) => {
-            Err(Hindrance::OfFile(Refusal::Device, ledger, FileFault::of_lock(&fault)))
+        Err(TryLockError::Error(_)) => {
+            Err(Hindrance::OfFile(Refusal::Device, ledger, FileFault::NoLocks))
         }
     }
 }

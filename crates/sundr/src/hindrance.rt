@@ -177,14 +177,6 @@ impl FileFault {
         }
     }
 
-    /// What a fault of the system is where a file is locked.
-    pub(crate) fn of_lock(fault: &io::Error) -> FileFault {
-        match fault.kind() {
-            ErrorKind::Unsupported => FileFault::NoLocks,
-            _ => FileFault::of(fault),
-        }
-    }
-
     /// What is told of it, after the file's name.
     pub(crate) fn words(self) -> &'static str {
         match self {
