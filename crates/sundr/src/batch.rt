@@ -1,12 +1,13 @@
 //! Commands that come on standard input, a line each.
 
 use crate::admin::{NoChanges, read_changes};
-use crate::folder::{check_target, read_blocks, read_content, read_keys};
+use crate::folder::{read_blocks, read_content, read_keys};
 use crate::hindrance::Hindrance;
 use crate::reaching::{Reach, Server};
 use crate::standing::read_standing;
+use crate::target::Target;
 use crate::{
-    Beside, Opened, Outcome, OwnClient, OwnSession, WORDS, answer, end, into_file, lock_and_open,
+    Beside, Opened, Outcome, OwnClient, OwnSession, WORDS, answer, end, into_target, lock_and_open,
     own_key_digits, parted, print_with_reason, refuse, session_of, tell, tell_leaves,
 };
 use commands::{Answer, Command, Refusal};
@@ -80,9 +81,9 @@ fn get<H: Net<Stream = TcpStream>>(
     path: &str,
     file: &str,
 ) -> Result<Outcome, Hindrance> {
-    check_target(rt, file)?;
+    let target = Target::open(rt, file)?;
     let answer = answer(rt, session, &Command::Cat(path));
-    Ok(answered(server, into_file(rt, answer, file)?))
+    Ok(answered(server, into_target(rt, target, answer)?))
 }
 
 /// Makes the changes that a file of the system has. Where its words are at fault nothing is begun.

@@ -405,35 +405,6 @@ pub(crate) fn read_content(rt: &HostRuntime, path: &str) -> Result<Vec<u8>, Hind
     content.map_err(|fault| content_hindrance(&fault))
 }
 
-/// Refuses a name of the system into which no bytes of a file can be written: one of what is no file.
-pub(crate) fn check_target(rt: &HostRuntime, path: &str) -> Result<(), Hindrance> {
-    match fs::metadata(rt, path) {
-        Ok(found) if found.is_dir() => Err(Hindrance::NoFile(FileFault::Directory)),
-        Ok(found) if !found.is_file() => Err(Hindrance::NoFile(FileFault::NoFile)),
-        _ => Ok(()),
-    }
-}
-
-/// Writes bytes into a file beside, and moves it into its place.
-fn replace(rt: &HostRuntime, beside: &str, path: &str, bytes: &[u8]) -> io::Result<()> {
-    let mut file = File::create(rt, beside)?;
-    file.write_all(bytes)?;
-    file.sync_all()?;
-    fs::rename(rt, beside, path)
-}
-
-/// Writes bytes into a file of the system, which has its former ones until all of them are there.
-pub(crate) fn write_content(rt: &HostRuntime, path: &str, bytes: &[u8]) -> Result<(), Hindrance> {
-    let beside = format!(in rt.alloc(); "{path}.sundr-new")?;
-    match replace(rt, &beside, path, bytes) {
-        Ok(()) => Ok(()),
-        Err(fault) => {
-            let _ = fs::remove_file(rt, &beside);
-            Err(content_hindrance(&fault))
-        }
-    }
-}
-
 /// The user whose number a text is.
 fn user_of(text: &[u8]) -> Option<User> {
     let text = std::str::from_utf8(text).ok()?;

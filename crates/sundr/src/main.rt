@@ -14,6 +14,7 @@ mod reaching;
 mod reason;
 mod renewing;
 mod standing;
+mod target;
 
 use admin::{NoChanges, read_changes};
 use batch::carry_out_batch;
@@ -25,9 +26,8 @@ use drawn_key::drawn_key;
 use file_commands::{Line, LineError, NewFolder, Request, Wanted};
 use file_session::{Resumed, Session, refusal_of};
 use folder::{
-    Keys, Seed, check_folder, check_ledger, check_target, check_user, keep_blocks, keep_leaves,
-    last_signed, lock_ledgers, open_device, read_blocks, read_content, read_kept, read_keys,
-    read_seeds, write_content,
+    Keys, Seed, check_folder, check_ledger, check_user, keep_blocks, keep_leaves, last_signed,
+    lock_ledgers, open_device, read_blocks, read_content, read_kept, read_keys, read_seeds,
 };
 use hindrance::{FileFault, FolderFile, Hindrance};
 use init::{init, print_made};
@@ -48,6 +48,7 @@ use std::io::{self, ErrorKind};
 use std::net::{Net, TcpStream};
 use std::process::ExitCode;
 use std::thread::Threads;
+use target::Target;
 use transport::Connecting;
 
 /// The status where the words are at fault.
@@ -344,18 +345,39 @@ fn make_changes<H: Net<Stream = TcpStream> + Threads + Sync>(
     }
 }
 
-/// What came of a command that shows a file: its bytes are written into a file of the system.
-pub(crate) fn into_file(
+/// What came of a command that shows a file: a file of the system gets its bytes, and is as it was where there are none.
+pub(crate) fn into_target(
     rt: &HostRuntime,
+    target: Target<'_>,
     answer: Answer<Global>,
-    file: &str,
 ) -> Result<Answer<Global>, Hindrance> {
     match answer {
         Answer::Bytes(bytes) => {
-            write_content(rt, file, &bytes)?;
+            target.finish(rt, &bytes)?;
             Ok(Answer::Done)
         }
-        other => Ok(other),
+        other => {
+            target.leave(rt);
+            Ok(other)
+        }
+    }
+}
+
+/// What came of a command that shows a file, and was begun or not: a file of the system gets its bytes, or is as it was.
+fn outcome_into(
+    rt: &HostRuntime,
+    target: Target<'_>,
+    outcome: Result<Outcome, Hindrance>,
+) -> Result<Outcome, Hindrance> {
+    match outcome {
+        Ok(Outcome::Answer(answer, beside)) => {
+            let answer = into_target(rt, target, answer)?;
+            Ok(Outcome::Answer(answer, beside))
+        }
+        other => {
+            target.leave(rt);
+            other
+        }
     }
 }
 
@@ -367,13 +389,10 @@ fn get_file<H: Net<Stream = TcpStream> + Threads + Sync>(
     path: &str,
     file: &str,
 ) -> Result<Outcome, Hindrance> {
-    check_target(rt, file)?;
-    match obey_command(rt, host, line, &Command::Cat(path))? {
-        Outcome::Answer(answer, beside) => {
-            Ok(Outcome::Answer(into_file(rt, answer, file)?, beside))
-        }
-        other => Ok(other),
-    }
+    let keys = read_keys(rt, line.dir, line.user)?;
+    let target = Target::open(rt, file)?;
+    let outcome = carry_out(rt, host, line, &keys, &Command::Cat(path));
+    outcome_into(rt, target, outcome)
 }
 
 /// Carries a command out that needs no file.
