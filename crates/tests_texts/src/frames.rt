@@ -24,6 +24,7 @@ fn requests_are_framed(rt: HostRuntime) {
     is_request(&rt, RequestKind::Update, &payload, &update);
     is_request(&rt, RequestKind::Update, &[], b"\0\0\0\x01\x01");
     is_request(&rt, RequestKind::Put, &[], b"\0\0\0\x01\x03");
+    is_request(&rt, RequestKind::Sync, &[], b"\0\0\0\x01\x06");
     check(&rt, request_of(b"").is_none(), "no kind");
     check(&rt, request_of(b"\0").is_none(), "kind 0");
     check(&rt, request_of(b"\x05").is_none(), "kind 5");

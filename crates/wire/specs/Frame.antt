@@ -6,7 +6,7 @@ use Rattle.std.specs.Int.{w32}
 use Rattle.layout.specs.Types.{Bytes}
 use Rattle.layout.specs.Format.{Format, uint_in, string}
 use Rattle.wire.specs.declared.kinds.RequestKind.{RequestKind}
-use Rattle.wire.specs.declared.kinds.RequestKind.TheVariants.{Update, Commit, Put, Get}
+use Rattle.wire.specs.declared.kinds.RequestKind.TheVariants.{Update, Commit, Put, Get, Sync}
 use Rattle.wire.specs.declared.kinds.Status.{Status}
 use Rattle.wire.specs.declared.kinds.Status.TheVariants.{Ok, Form, UnknownUser, BadSignature, WrongNumber, NotPending, Busy, TooLarge, Absent, Memory}
 
@@ -19,6 +19,7 @@ number_of_kind Update = 1
 number_of_kind Commit = 2
 number_of_kind Put = 3
 number_of_kind Get = 4
+number_of_kind Sync = 6
 
 abbrev pub kind_of : ℕ → Option RequestKind
 kind_of n =
@@ -26,6 +27,7 @@ kind_of n =
     else if n == 2 then Some Commit
     else if n == 3 then Some Put
     else if n == 4 then Some Get
+    else if n == 6 then Some Sync
     else None
 
 abbrev pub number_of_status : Status → ℕ

@@ -4,7 +4,7 @@ use Rattle.std.specs.Prelude.{◌≡◌, ℕ, true, List, Some, refl}
 use Rattle.layout.specs.Laws.{laws}
 use Rattle.layout.specs.Format.{Lawful}
 use Rattle.wire.specs.declared.kinds.RequestKind.{RequestKind}
-use Rattle.wire.specs.declared.kinds.RequestKind.TheVariants.{Update, Commit, Put, Get}
+use Rattle.wire.specs.declared.kinds.RequestKind.TheVariants.{Update, Commit, Put, Get, Sync}
 use Rattle.wire.specs.declared.kinds.Status.{Status}
 use Rattle.wire.specs.declared.kinds.Status.TheVariants.{Ok, Form, UnknownUser, BadSignature, WrongNumber, NotPending, Busy, TooLarge, Absent, Memory}
 use Rattle.wire.specs.Frame.{frame, number_of_status, status_of, request, reply_body, request_of, may_carry, reply_of}
@@ -18,6 +18,7 @@ request_again Update payload = refl
 request_again Commit payload = refl
 request_again Put payload = refl
 request_again Get payload = refl
+request_again Sync payload = refl
 
 pub status_again : (status : Status) → status_of (number_of_status status) ≡ Some status
 status_again Ok = refl

@@ -14,6 +14,8 @@ pub enum RequestKind {
     Put = 3,
     /// To have a block: its digest.
     Get = 4,
+    /// That each block that was stored is kept, whatever becomes of the server: nothing goes with it.
+    Sync = 6,
 }
 
 /// What the server answers.
@@ -42,7 +44,7 @@ pub enum Status {
 }
 
 impl RequestKind {
-    /// The number of the kind, 1 to 4.
+    /// The number of the kind, 1 to 4 or 6.
     pub fn number(self) -> u8
         ensures { result ≡ number_of_kind self }
     {
@@ -58,6 +60,7 @@ impl RequestKind {
             2 => Some(RequestKind::Commit),
             3 => Some(RequestKind::Put),
             4 => Some(RequestKind::Get),
+            6 => Some(RequestKind::Sync),
             _ => None,
         }
     }
