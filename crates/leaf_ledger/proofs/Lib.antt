@@ -1,4 +1,5 @@
 mod Files
+mod Follows
 pub mod Lives
 pub mod Marked
 mod Parts

@@ -1,4 +1,5 @@
 pub mod Device
+pub mod Followed
 pub mod Ledger
 pub mod Life
 pub mod Moments

@@ -3,6 +3,7 @@
 ghost use Rattle.std.specs.Prelude.{◌≡◌, ◌+◌, ◌^◌, ◌<◌, ◌≤◌, ℕ, length, take, drop, IfOk, OnOk, OnErr};
 ghost use Rattle.leaf_ledger.specs.Device.{History, end_of_files, wrote_bytes, WroteSome, synced, HasCause};
 
+use layout::Memory;
 use thiserror::Error;
 
 /// A call of a device failed.
@@ -38,6 +39,15 @@ pub trait Device {
         ensures bytes { OnOk result (out.new ≡ take (length out.old) (drop at (history self.old).now.text)) }
         ensures same { history self.new ≡ history self.old }
         ensures cause { HasCause (fault_count self.old) (fault_count self.new) result };
+
+    /// Makes room for so many bytes past the end, so that writes up to there take no memory. A device that has no room to
+    /// make has nothing to do.
+    fn reserve(&mut self, _more: usize) -> Result<(), Memory>
+        ensures same { history self.new ≡ history self.old }
+        ensures faults { fault_count self.new ≡ fault_count self.old }
+    {
+        Ok(())
+    }
 
     /// Writes over what is there, and past the end. Where it fails, any part of it may be done.
     fn write_at(&mut self, at: usize, bytes: &[u8]) -> Result<(), DeviceError>

@@ -1,21 +1,25 @@
 //! A device over a file of the system.
 //!
-//! Beside the file it keeps in memory what the file has to hold, with its history: a read that gives something else is
-//! a fault. So all that a device promises is proved of what is kept. That a crash leaves of the file what it may leave
-//! of what is kept, and that nobody else writes to the file, can't be proved: who opens a device vouches for it.
+//! Beside the file it keeps in memory what the file has to hold: a read that gives something else is a fault. The history
+//! takes no memory, since only contracts see it. So all that a device promises is proved of what is kept. That a crash
+//! leaves of the file what it may leave of what is kept, and that nobody else writes to the file, can't be proved: who
+//! opens a device vouches for it.
 
 ghost use Rattle.std.specs.Prelude.{◌≡◌, IfOk};
 ghost use Rattle.leaf_ledger.specs.Device.{started};
 
 use crate::device::{Device, DeviceError};
 use crate::fault::{END, fault};
-use crate::recording::Recording;
+use crate::followed::Followed;
 use layout::{Memory, beside};
 use std::alloc::Allocator;
 use std::fs::{File, OpenOptions};
 use std::io::{self, Read};
 use std::marker::Model;
 use std::os::unix::fs::FileExt;
+
+/// Room past the end that there is from the start on: a new ledger or journal fits in.
+const ROOM: usize = 4096;
 
 /// A device over a file of the system, which nobody else may write to.
 ///
@@ -24,7 +28,7 @@ use std::os::unix::fs::FileExt;
 #[derive(Drop)]
 pub struct FileDevice<A: Allocator> {
     file: File,
-    kept: Recording<A>,
+    kept: Followed<A>,
     faults: u64,
 }
 
@@ -75,8 +79,7 @@ impl<A: Allocator + Copy> FileDevice<A> {
         ensures history { IfOk result (λ device. device.history ≡ started text.items) }
         ensures faults { IfOk result (λ device. device.faults ≡ 0) }
     {
-        let alloc = *text.allocator();
-        let kept = Recording::new(alloc, text);
+        let kept = Followed::new(text, ROOM);
         let (file, kept) = beside(file, kept)?;
         Ok(FileDevice {
             file,
@@ -126,9 +129,13 @@ impl<A: Allocator + Copy> Device for FileDevice<A> {
         Ok(())
     }
 
+    fn reserve(&mut self, more: usize) -> Result<(), Memory> {
+        self.kept.reserve(more)?;
+        Ok(())
+    }
+
     fn write_at(&mut self, at: usize, bytes: &[u8]) -> Result<(), DeviceError> {
-        let size = bytes.len();
-        if at >= END || size >= END - at || self.kept.write(at, bytes, size).is_err() {
+        if at >= END || bytes.len() >= END - at || self.kept.write(at, bytes).is_err() {
             return Err(fault(&mut self.faults));
         }
         if self.file.write_all_at(bytes, at as u64).is_err() {

@@ -12,11 +12,13 @@ mod error;
 mod extent;
 mod fault;
 mod file;
+mod followed;
 mod laws;
 mod ledger;
 mod load;
 mod marks;
 mod memory;
+mod moment;
 mod recording;
 
 pub use device::{Device, DeviceError, write_through};

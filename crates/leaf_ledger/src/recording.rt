@@ -10,7 +10,11 @@ use std::alloc::Allocator;
 use std::marker::Model;
 
 /// Writes bytes into a text at an offset, over what is there and past the end.
-fn splice<A: Allocator>(text: &mut Vec<u8, A>, at: usize, bytes: &[u8]) -> Result<(), Memory>
+pub(crate) fn splice<A: Allocator>(
+    text: &mut Vec<u8, A>,
+    at: usize,
+    bytes: &[u8],
+) -> Result<(), Memory>
     requires { at ≤ length text.old.items }
     ensures ok { OnOk result (text.new.items ≡ written at bytes.now text.old.items) }
     ensures err { OnErr result (text.new.items ≡ text.old.items) }
