@@ -34,24 +34,29 @@ impl<'a> Connection for Quiet<'a> {
     }
 }
 
-/// How many replies come, the exchanges, and which texts were put, in order. Reply k is the digit k, and each text one
-/// letter. Of an exchange: the reply that it is answered with, or `!` where that is no frame, the text that is put, and
-/// the texts that are known to be put next.
-static CASES: [(usize, &[&[u8]], &[u8]); 6] = [
+/// A letter that is no text: that what was stored is to be kept.
+const SYNC: u8 = b'.';
+
+/// How many replies come, the exchanges, and what was sent, in order. Reply k is the digit k, and each text one letter.
+/// Of an exchange: the reply that it is answered with, or `!` where that is no frame, what is asked for, and the texts
+/// that are known to be put next, after which what was stored is to be kept.
+static CASES: [(usize, &[&[u8]], &[u8]); 7] = [
     // The first exchange sends all, and no later one sends any of them again.
-    (1, &[b"1abc"], b"abc"),
-    (4, &[b"1abc", b"2bc", b"3c", b"4d"], b"abcd"),
-    // What comes next is known a little at a time.
-    (3, &[b"1ab", b"2bc", b"3c"], b"abc"),
+    (1, &[b"1abc"], b"abc."),
+    (4, &[b"1abc", b"2bc", b"3c", b"4."], b"abc."),
     // The reply to what isn't asked for is no other request's.
-    (4, &[b"1abc", b"4d"], b"abcd"),
-    (3, &[b"1abc", b"3c"], b"abc"),
+    (5, &[b"1abc", b"5d"], b"abc.d."),
+    (3, &[b"1abc", b"3c"], b"abc."),
+    (4, &[b"1abc", b"4."], b"abc."),
+    // Where one text more comes than was known, what went ahead is sent once more.
+    (5, &[b"1ab", b"2bc", b"5c"], b"ab..c."),
     // After a reply that is missing nothing is sent.
-    (1, &[b"1ab", b"!b", b"!d"], b"ab"),
+    (1, &[b"1ab", b"!b", b"!d"], b"ab."),
 ];
 
 /// The frames of so many replies.
-const REPLIES: &[u8] = b"\0\0\0\x011\0\0\0\x012\0\0\0\x013\0\0\0\x014";
+const REPLIES: &[u8] =
+    b"\0\0\0\x011\0\0\0\x012\0\0\0\x013\0\0\0\x014\0\0\0\x015";
 
 /// Texts of a letter each.
 fn texts_of<R: Abort + Alloc<A = Global>>(rt: &R, letters: &[u8]) -> Vec<Vec<u8>> {
@@ -72,7 +77,11 @@ fn exchanges<R: Abort + Alloc<A = Global>, C: Connection>(
     let (wanted, letters) = exchange.split_first().expect(rt, "what comes");
     let texts = texts_of(rt, letters);
     let (text, later) = texts.split_first().expect(rt, "a text");
-    let request = Request::new(RequestKind::Put, text);
+    let request = if letters == [SYNC].as_slice() {
+        Request::new(RequestKind::Sync, &[])
+    } else {
+        Request::new(RequestKind::Put, text)
+    };
     let is_wanted = match framed.exchange_ahead(&request, &Ahead::Puts(later)) {
         Ok(body) => body.as_slice() == [*wanted].as_slice(),
         Err(error) => error == TransportError::NoFrame && *wanted == b'!',
@@ -80,26 +89,25 @@ fn exchanges<R: Abort + Alloc<A = Global>, C: Connection>(
     assert!(rt; is_wanted, "the reply to {}", char::from(*wanted));
 }
 
-/// What is written are the frames that put these texts of a letter.
-fn puts(rt: &impl Abort, written: &[u8], letters: &[u8]) {
-    let count = written.len() / 6;
-    assert!(rt;
-        count == letters.len() && written.len() % 6 == 0,
-        "whole frames"
-    );
-    for (frame, letter) in written.chunks(6).zip(letters) {
-        assert!(rt;
-            frame == [0, 0, 0, 2, 3, *letter].as_slice(),
-            "put once, and in order"
-        );
+/// What is written are the frames that put these texts of a letter, and ask that they are kept.
+fn sends<R: Abort + Alloc<A = Global>>(rt: &R, written: &[u8], letters: &[u8]) {
+    let mut frames: Vec<u8> = Vec::new(rt.alloc());
+    for letter in letters {
+        let frame: &[u8] = if *letter == SYNC {
+            b"\0\0\0\x01\x06"
+        } else {
+            &[0, 0, 0, 2, 3, *letter]
+        };
+        frames.extend_from_slice(frame).expect(rt, "memory");
     }
+    assert!(rt; written == frames.as_slice(), "sent once, and in order");
 }
 
 #[test]
 fn requests_go_ahead(rt: HostRuntime) {
     for (count, steps, letters) in &CASES {
         let mut output = Vec::new(rt.alloc());
-        let inner = MemoryConnection::new(&REPLIES[..5 * *count.min(&4)], 7, &mut output);
+        let inner = MemoryConnection::new(&REPLIES[..5 * *count.min(&5)], 7, &mut output);
         let mut framed = Framed::going_ahead(rt.alloc(), Quiet { inner }, true).expect(
             &rt, "memory",
         );
@@ -107,7 +115,7 @@ fn requests_go_ahead(rt: HostRuntime) {
             exchanges(&rt, &mut framed, step);
         }
         let _connection = framed.into_connection();
-        puts(&rt, &output, letters);
+        sends(&rt, &output, letters);
     }
 }
 
@@ -137,5 +145,5 @@ fn none_goes_ahead_where_bytes_are_told(rt: HostRuntime) {
     let mut framed = Framed::new(rt.alloc(), connection).expect(&rt, "memory");
     exchanges(&rt, &mut framed, b"1abc");
     let _connection = framed.into_connection();
-    puts(&rt, &output, b"a");
+    sends(&rt, &output, b"a");
 }

@@ -5,7 +5,7 @@ use Rattle.layout.specs.Types.{Bytes}
 use Rattle.wire.specs.declared.kinds.RequestKind.{RequestKind}
 use Rattle.transport.specs.declared.transport.TransportError.{TransportError}
 
--- the kind, and what goes with it: a signed certificate or structure, a block, or a digest
+-- the kind, and what goes with it: a signed certificate or structure, a block, a digest, or nothing
 pub record Asked : Type 0 where
   pub kind : RequestKind
   pub payload : Bytes

@@ -39,7 +39,8 @@ impl<'a> Model for Request<'a> {
 }
 
 impl<'a> Request<'a> {
-    /// A request of this kind: a signed certificate or structure, a block, or the 32 bytes of a digest goes with it.
+    /// A request of this kind: a signed certificate or structure, a block, the 32 bytes of a digest, or nothing goes
+    /// with it.
     pub fn new(kind: RequestKind, payload: &'a [u8]) -> Request<'a>
         ensures { result ≡ record { kind = kind; payload = payload.now } }
     {
@@ -67,7 +68,7 @@ impl<'a> Request<'a> {
 pub enum Ahead<'a, A: Allocator> {
     /// None is known.
     Nothing,
-    /// These texts will be stored.
+    /// These texts will be stored, and once they are it is asked that they are kept.
     Puts(&'a [Vec<u8, A>]),
     /// The blocks of these digests will be asked for.
     Gets(&'a [Digest]),
@@ -80,7 +81,11 @@ impl<'a, A: Allocator> Ahead<'a, A> {
     {
         match self {
             Ahead::Nothing => None,
-            Ahead::Puts(texts) => Some(Request::new(RequestKind::Put, texts.get(place)?)),
+            Ahead::Puts(texts) => match texts.get(place) {
+                Some(text) => Some(Request::new(RequestKind::Put, text)),
+                None if place == texts.len() => Some(Request::new(RequestKind::Sync, &[])),
+                None => None,
+            },
             Ahead::Gets(digests) => {
                 Some(Request::new(RequestKind::Get, digests.get(place)?.as_bytes()))
             }
