@@ -15,6 +15,7 @@ use crate::kind::Kind;
 use crate::record::{HEADER_SIZE, Record};
 use crate::staging::stage;
 use crate::state::{JournalState, read_state};
+use layout::Memory;
 use leaf_ledger::{Device, Extent, write_through};
 use std::alloc::Allocator;
 use std::marker::Model;
@@ -86,7 +87,16 @@ impl<D: Device> Journal<D> {
         }
     }
 
-    /// Adds a record. From Ok on it is there, whatever crash comes. It takes no memory.
+    /// Makes room for a record with a text of so many bytes, so that its `append` takes no memory.
+    pub fn reserve(&mut self, text_size: usize) -> Result<(), Memory>
+        ensures { self.new ≡ self.old }
+    {
+        self.device
+            .reserve(text_size.saturating_add(HEADER_SIZE + 1))?;
+        Ok(())
+    }
+
+    /// Adds a record. From Ok on it is there, whatever crash comes. It takes no memory where room was made for it.
     pub fn append(&mut self, added: Record<'_>) -> Result<(), JournalError>
         requires usable { self.old.usable ≡ true }
         requires turn { MayCome added self.old.file.now.text }
