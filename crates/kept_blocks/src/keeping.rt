@@ -68,7 +68,7 @@ fn text_for<'a, A: Allocator>(kept: &'a KeptBlocks<A>, request: &Request<'_>) ->
 {
     match request.kind() {
         RequestKind::Get => kept.text_of(request.payload()),
-        RequestKind::Update | RequestKind::Commit | RequestKind::Put => None,
+        RequestKind::Update | RequestKind::Commit | RequestKind::Put | RequestKind::Sync => None,
     }
 }
 
@@ -106,7 +106,7 @@ fn keep_told<A: Allocator + Copy>(kept: &mut KeptBlocks<A>, request: &Request<'_
     match request.kind() {
         RequestKind::Get => keep(kept, request.payload(), payload),
         RequestKind::Put => keep(kept, payload, request.payload()),
-        RequestKind::Update | RequestKind::Commit => (),
+        RequestKind::Update | RequestKind::Commit | RequestKind::Sync => (),
     }
 }
 
