@@ -24,9 +24,9 @@ use crate::releasing::keep_under;
 use crate::signing::{Sealed, Unsigned};
 use crate::told::{Told, told_by};
 use client_journal::{Journal, Kind};
-use layout::{User, Version, are_bytes, let_go, put_in};
+use layout::{Memory, User, Version, are_bytes, let_go, put_in};
 use leaf_ledger::Device;
-use lms_sign::PublicKey;
+use lms_sign::{PublicKey, SIGNATURE_SIZE};
 use pending_list::{Signature, Signed};
 use std::alloc::Allocator;
 use std::marker::Model;
@@ -281,8 +281,18 @@ impl<L: Device, J: Device, A: Allocator> Releases<L, J, A> {
         own.ledger.free_leaves()
     }
 
+    /// Makes room in the journal for the record of a text that has so many bytes before its signature, so that what
+    /// releases it takes no memory.
+    pub fn reserve(&mut self, unsigned_size: usize) -> Result<(), Memory>
+        ensures { self.new ≡ self.old }
+    {
+        self.journal
+            .reserve(unsigned_size.saturating_add(SIGNATURE_SIZE))?;
+        Ok(())
+    }
+
     /// Releases the certificate of the next operation, of this number: it is signed and journaled, and then handed out.
-    /// It takes no memory, and fails by the devices alone.
+    /// Where room was made for it, it takes no memory, and fails by the devices alone.
     pub fn declare(
         &mut self,
         key: usize,
@@ -340,7 +350,7 @@ impl<L: Device, J: Device, A: Allocator> Releases<L, J, A> {
     }
 
     /// Signs the certificate that is declared once more, by this key: it is journaled, and then handed out in place of
-    /// the text before. It takes no memory, and fails by the devices alone.
+    /// the text before. Where room was made for it, it takes no memory, and fails by the devices alone.
     pub fn resign(&mut self, key: usize, unsigned: Unsigned<A>) -> Result<Vec<u8, A>, ClientError>
         requires declared { self.old.phase ≡ Phase.Declared }
         requires key { HasKey key self.old }
@@ -384,7 +394,7 @@ impl<L: Device, J: Device, A: Allocator> Releases<L, J, A> {
     }
 
     /// Releases the structure of the declared operation: its text is signed and journaled, and then handed out with its
-    /// signature. It takes no memory, and fails by the devices alone.
+    /// signature. Where room was made for it, it takes no memory, and fails by the devices alone.
     pub fn sign(
         &mut self,
         key: usize,

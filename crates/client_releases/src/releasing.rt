@@ -22,7 +22,8 @@ use pending_list::Signature;
 use std::alloc::Allocator;
 
 /// Signs a text by the least free leaf and appends it to the journal. From Ok on leaf and record stay, whatever crash
-/// comes, so that the text may be handed out. It takes no memory, and fails by the devices alone.
+/// comes, so that the text may be handed out. Where room was made for the record, it takes no memory, and fails by the
+/// devices alone.
 pub(crate) fn keep<L: Device, J: Device, A: Allocator>(
     ledger: &mut Ledger<L>,
     journal: &mut Journal<J>,
