@@ -8,7 +8,7 @@ use Rattle.connection.specs.Told.{Told, goes_on}
 use Rattle.wire.specs.declared.kinds.Status.{Status}
 use Rattle.wire.specs.declared.kinds.Status.TheVariants as status
 use Rattle.wire.specs.declared.kinds.RequestKind.{RequestKind}
-use Rattle.wire.specs.declared.kinds.RequestKind.TheVariants.{Update, Commit, Put, Get}
+use Rattle.wire.specs.declared.kinds.RequestKind.TheVariants.{Update, Commit, Put, Get, Sync}
 use Rattle.wire.specs.Frame.{frame, request_of, reply_body}
 use Rattle.wire.specs.Stream.{frames_of, BeginsFrame, BeginsAtFault}
 use Rattle.consistency_server.specs.Answers.{Call, Answer}
@@ -52,11 +52,13 @@ RepliesToGet payload reply =
     ((length payload ≡ 32) × RepliesToDigest payload reply)
     ⊎ ((length payload ≢ 32) × (reply ≡ bare status.Form))
 
+-- to SYNC, that it isn't known: the server keeps nothing
 abbrev pub RepliesTo : Key → RequestKind → Bytes → Answer → Type 0
 RepliesTo pinned Update text reply = RepliesToCall pinned (update_of text) reply
 RepliesTo pinned Commit text reply = RepliesToCall pinned (commit_of text) reply
 RepliesTo pinned Put block reply = RepliesToPut block reply
 RepliesTo pinned Get digest reply = RepliesToGet digest reply
+RepliesTo pinned Sync payload reply = reply ≡ bare status.Form
 
 -- to what may be a request
 abbrev pub RepliesToBody : Key → Option (RequestKind × Bytes) → Answer → Type 0
@@ -69,6 +71,7 @@ count_in (Some (Update, text)) s = count_of s
 count_in (Some (Commit, text)) s = count_of s
 count_in (Some (Put, block)) s = 0
 count_in (Some (Get, digest)) s = 0
+count_in (Some (Sync, payload)) s = 0
 count_in None s = 0
 
 -- ---- conversations

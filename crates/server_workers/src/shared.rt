@@ -91,6 +91,7 @@ impl<'a, A: Allocator + Copy, B: ServerName, L: Ledger, R: Wait> Shared<'a, A, B
             RequestKind::Commit => self.call(rt, gate, tally, seen, CallKind::Commit, payload),
             RequestKind::Put => self.put(rt, gate, payload),
             RequestKind::Get => self.get(rt, payload),
+            RequestKind::Sync => ReplyBody::bare(self.alloc, Status::Form),
         }
     }
 
