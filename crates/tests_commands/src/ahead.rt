@@ -55,8 +55,7 @@ static CASES: [(usize, &[&[u8]], &[u8]); 7] = [
 ];
 
 /// The frames of so many replies.
-const REPLIES: &[u8] =
-    b"\0\0\0\x011\0\0\0\x012\0\0\0\x013\0\0\0\x014\0\0\0\x015";
+const REPLIES: &[u8] = b"\0\0\0\x011\0\0\0\x012\0\0\0\x013\0\0\0\x014\0\0\0\x015";
 
 /// Texts of a letter each.
 fn texts_of<R: Abort + Alloc<A = Global>>(rt: &R, letters: &[u8]) -> Vec<Vec<u8>> {
@@ -77,12 +76,12 @@ fn exchanges<R: Abort + Alloc<A = Global>, C: Connection>(
     let (wanted, letters) = exchange.split_first().expect(rt, "what comes");
     let texts = texts_of(rt, letters);
     let (text, later) = texts.split_first().expect(rt, "a text");
-    let request = if letters == [SYNC].as_slice() {
-        Request::new(RequestKind::Sync, &[])
+    let (request, ahead) = if letters == [SYNC].as_slice() {
+        (Request::new(RequestKind::Sync, &[]), Ahead::Nothing)
     } else {
-        Request::new(RequestKind::Put, text)
+        (Request::new(RequestKind::Put, text), Ahead::Puts(later))
     };
-    let is_wanted = match framed.exchange_ahead(&request, &Ahead::Puts(later)) {
+    let is_wanted = match framed.exchange_ahead(&request, &ahead) {
         Ok(body) => body.as_slice() == [*wanted].as_slice(),
         Err(error) => error == TransportError::NoFrame && *wanted == b'!',
     };
@@ -93,12 +92,12 @@ fn exchanges<R: Abort + Alloc<A = Global>, C: Connection>(
 fn sends<R: Abort + Alloc<A = Global>>(rt: &R, written: &[u8], letters: &[u8]) {
     let mut frames: Vec<u8> = Vec::new(rt.alloc());
     for letter in letters {
-        let frame: &[u8] = if *letter == SYNC {
-            b"\0\0\0\x01\x06"
+        let framed = if *letter == SYNC {
+            frames.extend_from_slice(b"\0\0\0\x01\x06")
         } else {
-            &[0, 0, 0, 2, 3, *letter]
+            frames.extend_from_slice(&[0, 0, 0, 2, 3, *letter])
         };
-        frames.extend_from_slice(frame).expect(rt, "memory");
+        framed.expect(rt, "memory");
     }
     assert!(rt; written == frames.as_slice(), "sent once, and in order");
 }
