@@ -1,5 +1,5 @@
 -- Who stopped a session.
-use Rattle.std.proofs.Common.{◌≡◌, ℕ, List, [], ◌∷◌, Option, Some, None, Result, Ok, Err, refl, sym, ap, ◌∙◌, subst}
+use Rattle.std.proofs.Common.{◌≡◌, ℕ, List, [], ◌∷◌, Option, Some, None, Result, Ok, Err, refl, sym, ap, ◌∙◌, subst, inl, inr}
 use Rattle.std.specs.Option.{unwrap_or}
 use Rattle.layout.specs.Types.{Bytes}
 use Rattle.wire.specs.Frame.{reply_of}
@@ -18,10 +18,10 @@ use Rattle.file_session.specs.declared.stop.Stop.{Stop}
 use Rattle.file_session.specs.declared.stop.Stop.TheVariants as stop
 use Rattle.transport.specs.declared.transport.TransportError.{TransportError}
 use Rattle.transport.specs.declared.transport.TransportError.TheVariants as fault
-use Rattle.file_session.specs.Replies.{payload_by, payload_in, reply_in, block_by, block_in, status_in, then, or_cut}
+use Rattle.file_session.specs.Replies.{payload_by, payload_in, reply_in, block_by, block_in, status_in, synced_by, synced_in, then, or_cut}
 use Rattle.file_session.specs.Calls.{Begins, Resigns, Hears, Takes, Signs, Commits, Looks, Gives}
-use Rattle.file_session.specs.Order.{Move, Calls, Sends, LacksLeaves, LacksPlan, LacksNumbers, Next, Ready, Update, Hear, Resign, Fetch, Take, Store, CommitNew, Commit, Tell, FetchAt, GiveAt, Over, Follows}
-use Rattle.file_session.specs.Order.{laying, declaring, trying, hearing, resigning, checking, taking, storing, committing, telling, committed, looking, giving, ready_or, resuming}
+use Rattle.file_session.specs.Order.{Move, Calls, Sends, LacksLeaves, LacksPlan, LacksNumbers, Next, Ready, Unsynced, Update, Hear, Resign, Fetch, Take, Store, Sync, CommitNew, Commit, Tell, FetchAt, GiveAt, Over, Follows}
+use Rattle.file_session.specs.Order.{laying, declaring, trying, hearing, resigning, checking, taking, left_to_store, storing, syncing, committing, telling, committed, looking, giving, ready_or, resuming}
 use Rattle.file_session.specs.Tries.{keys_to_try}
 use Rattle.file_session.specs.Went.{Answering, At, IsMove, Moves}
 use Rattle.file_session.specs.Sessions.{IsGivenFrom}
@@ -90,6 +90,19 @@ by_payload f x e not is h = by_answer f e not is payload_by (payload_declined f 
 by_block : (f : Result (Option Bytes) Stop → Next) (x : Result Bytes TransportError) (e : Stop) → ((n : Option Bytes) → Over e ≡ f (Ok n) → ⊥) → ((d : Stop) → Over e ≡ f (Err d) → e ≡ d) → Over e ≡ f (block_in x) → GaveAnswer x e
 by_block f x e not is h = by_answer f e not is block_by (block_declined f e not is) x h
 
+synced_declined : (next : Next) (e : Stop) → (Over e ≡ next → ⊥) → (s : Status) (payload : Bytes) → Over e ≡ syncing next (synced_by s) → e ≡ stop.Declined s
+synced_declined next e not status.Ok payload h = absurd (not h)
+synced_declined next e not status.Form payload h = absurd (not h)
+synced_declined next e not other payload h = same (stop.Declined other) e h
+
+by_synced : (next : Next) (x : Result Bytes TransportError) (e : Stop) → (Over e ≡ next → ⊥) → Over e ≡ syncing next (synced_in x) → GaveAnswer x e
+by_synced next x e not h = by_answer (syncing next) e (λ n k. not k) (λ d k. same d e k) (λ s payload. synced_by s) (synced_declined next e not) x h
+
+-- more is to come once a text was stored
+not_left : (texts : List Bytes) (e : Stop) → Over e ≡ left_to_store texts → ⊥
+not_left [] e h = cc
+not_left (text ∷ texts) e h = cc
+
 by_status : (x : Result Bytes TransportError) (e : Stop) → Over e ≡ telling (status_in x) → GaveAnswer x e
 by_status x e h = by_answer telling e (λ n k. cc) (λ d k. same d e k) (λ s payload. Ok s) (λ s payload k. cc) x h
 
@@ -105,6 +118,8 @@ gave_by s (Ready []) LacksLeaves e h = same (stop.Client error.NoLeaf) e h.1
 gave_by s (Ready []) LacksPlan e h = same stop.Memory e h
 gave_by s (CommitNew text (n ∷ lost)) LacksNumbers e h = same stop.Memory e h
 gave_by s (Ready laid) (Sends r x) e h = by_payload (laying laid r.payload) x e (λ n k. cc) (λ d k. same d e k) h.1
+gave_by s (Unsynced laid) (Sends r x) e (inl h) = by_payload (laying laid r.payload) x e (λ n k. cc) (λ d k. same d e k) h.1
+gave_by s (Unsynced laid) (Sends r x) e (inr h) = by_synced (Ready laid) x e (λ k. cc) h.1
 gave_by s (Ready laid) (Calls (Begins changes texts x)) e h = by_text declaring x e (λ n k. cc) (λ d. refl) h.2
 gave_by s (Ready laid) (Calls (Looks q x)) e h = by_look q x e h.1
 gave_by s (Update text left) (Sends r x) e h = let keys = unwrap_or left (keys_to_try s) in by_payload (hearing keys) x e (λ n k. cc) (λ d k. by_hearing keys e d k) h.1
@@ -112,7 +127,8 @@ gave_by s (Resign n keys) (Calls (Resigns m x)) e h = by_text (resigning keys) x
 gave_by s (Hear text) (Calls (Hears reply x)) e h = by_step x e h.1
 gave_by s (Fetch digest) (Sends r x) e h = by_block taking x e (λ n k. cc) (λ d k. same d e k) h.1
 gave_by s (Take block) (Calls (Takes handed x)) e h = by_step x e h.1
-gave_by s (Store (text ∷ texts)) (Sends r x) e h = by_payload (storing texts) x e (λ n k. cc) (λ d k. same d e k) h.1
+gave_by s (Store (text ∷ texts)) (Sends r x) e h = by_payload (storing texts) x e (λ n k. not_left texts e k) (λ d k. same d e k) h.1
+gave_by s Sync (Sends r x) e h = by_synced (Store []) x e (λ k. cc) h.1
 gave_by s (Store []) (Calls (Signs x lost)) e h = by_text (λ r. committing r lost) x e (λ n k. cc) (λ d. refl) h
 gave_by s (CommitNew text lost) (Sends r x) e h = by_status x e h.1
 gave_by s (Commit text) (Sends r x) e h = by_status x e h.1
@@ -130,12 +146,14 @@ IsOn other = Unit {0}
 on_before : (s : State) (now : Next) (m : Move) (next : Next) → Follows s now m next → IsOn now
 on_before s (Over e) m next h = h
 on_before s (Ready laid) m next h = tt
+on_before s (Unsynced laid) m next h = tt
 on_before s (Update text left) m next h = tt
 on_before s (Resign n keys) m next h = tt
 on_before s (Hear text) m next h = tt
 on_before s (Fetch digest) m next h = tt
 on_before s (Take block) m next h = tt
 on_before s (Store texts) m next h = tt
+on_before s Sync m next h = tt
 on_before s (CommitNew text lost) m next h = tt
 on_before s (Commit text) m next h = tt
 on_before s (Tell told) m next h = tt

@@ -3,6 +3,7 @@ pub mod Looks
 pub mod Turns
 pub mod Operations
 pub mod Given
+pub mod Synced
 pub mod Steps
 pub mod Tries
 pub mod Tables

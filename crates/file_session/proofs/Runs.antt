@@ -1,5 +1,5 @@
 -- Runs, one move after another.
-use Rattle.std.proofs.Common.{◌≡◌, ℕ, true, false, List, [], ◌∷◌, ◌++◌, Option, Result, Ok, Err, refl, sym, ap, ◌∙◌, subst, append_assoc, append-nil}
+use Rattle.std.proofs.Common.{◌≡◌, ℕ, true, false, List, [], ◌∷◌, ◌++◌, Option, Result, Ok, Err, refl, sym, ap, ◌∙◌, subst, append_assoc, append-nil, inl, inr}
 use Rattle.std.specs.Option.{unwrap_or}
 use Rattle.layout.specs.Types.{Bytes, Digest}
 use Rattle.update_cert.specs.Change.{Change}
@@ -12,11 +12,11 @@ use Rattle.client_steps.specs.Steps.{Asks, Sees}
 use Rattle.file_session.specs.declared.stop.Stop.{Stop}
 use Rattle.file_session.specs.declared.stop.Stop.TheVariants as stop
 use Rattle.transport.specs.declared.transport.TransportError.{TransportError}
-use Rattle.file_session.specs.Replies.{payload_in, block_in, status_in}
+use Rattle.file_session.specs.Replies.{payload_in, block_in, status_in, synced_in}
 use Rattle.file_session.specs.Calls.{Begins, Resigns, Hears, Takes, Signs, Commits, Looks, Gives, Leads}
-use Rattle.file_session.specs.Order.{Move, Calls, Sends, LacksLeaves, LacksPlan, LacksNumbers, Ready, Update, Hear, Resign, Fetch, Take, Store, CommitNew, Commit, Tell, FetchAt, GiveAt, Over}
-use Rattle.file_session.specs.Order.{laying, declaring, hearing, resigning, checking, taking, storing, committing, telling, committed, looking, giving, ready_or}
-use Rattle.file_session.specs.Order.{put as put_of, update, get, commit}
+use Rattle.file_session.specs.Order.{Move, Calls, Sends, LacksLeaves, LacksPlan, LacksNumbers, Next, Ready, Unsynced, Update, Hear, Resign, Fetch, Take, Store, Sync, CommitNew, Commit, Tell, FetchAt, GiveAt, Over}
+use Rattle.file_session.specs.Order.{laying, declaring, hearing, resigning, checking, taking, storing, syncing, committing, telling, committed, looking, giving, ready_or}
+use Rattle.file_session.specs.Order.{put as put_of, sync, update, get, commit}
 use Rattle.file_session.specs.Tries.{can_declare, keys_to_try}
 use Rattle.file_session.specs.Went.{Answering, At, point, IsMove, Moves, Event, Begun, Saw, Unbegun, Unplanned, looks, signs, seen_by, signed_by, events_of, events, Went, Seen}
 
@@ -43,6 +43,11 @@ no_commit : {X : Type 0} (text : Bytes) (r : Result X Stop) → ready_or r ≡ C
 no_commit text (Ok x) is = absurd cc
 no_commit text (Err e) is = absurd cc
 
+-- these texts were stored for an operation, one after another
+abbrev pub laid_so_far : List Bytes → Next
+laid_so_far [] = Ready []
+laid_so_far (text ∷ texts) = Unsynced (text ∷ texts)
+
 module _ {T : Type 0} {answers : Answering T} where
   pub went_then : {a b c : At T} {s t : List Event} → Went answers a b s → Went answers b c t → Went answers a c (s ++ t)
   went_then {a} {b} {c} h k = record {
@@ -65,8 +70,13 @@ module _ {T : Type 0} {answers : Answering T} where
   pub begun : (m m' : State) (t : T) (changes : List (Change Digest)) (texts : List Bytes) (x : Result Bytes ClientError) → can_declare m ≡ true → Leads m (Begins changes texts x) m' → Went answers (point m t (Ready texts)) (point m' t (declaring x)) (Begun changes texts ∷ [])
   begun m m' t changes texts x can h = went_one (point m t (Ready texts)) (Calls (Begins changes texts x)) (point m' t (declaring x)) (h, refl, (can, refl, refl))
 
-  pub laid : (m m' : State) (t t' : T) (before : List Bytes) (text : Bytes) (r : Result Bytes Stop) → m' ≡ m → ((x : Result Bytes TransportError) × answers t (put_of text) x t' × (r ≡ payload_in x)) → Went answers (point m t (Ready before)) (point m' t' (laying before text r)) []
-  laid m m' t t' before text r same (x, h, is) = went_one (point m t (Ready before)) (Sends (put_of text) x) (point m' t' (laying before text r)) (h, same, (refl, ap (laying before text) is))
+  pub laid : (m m' : State) (t t' : T) (before : List Bytes) (text : Bytes) (r : Result Bytes Stop) → m' ≡ m → ((x : Result Bytes TransportError) × answers t (put_of text) x t' × (r ≡ payload_in x)) → Went answers (point m t (laid_so_far before)) (point m' t' (laying before text r)) []
+  laid m m' t t' [] text r same (x, h, is) = went_one (point m t (Ready [])) (Sends (put_of text) x) (point m' t' (laying [] text r)) (h, same, (refl, ap (laying [] text) is))
+  laid m m' t t' (first ∷ before) text r same (x, h, is) =
+      let all = first ∷ before in went_one (point m t (Unsynced all)) (Sends (put_of text) x) (point m' t' (laying all text r)) (h, same, inl (refl, ap (laying all text) is))
+
+  pub synced_laid : (m m' : State) (t t' : T) (texts : List Bytes) (r : Result (Unit {0}) Stop) → m' ≡ m → ((x : Result Bytes TransportError) × answers t sync x t' × (r ≡ synced_in x)) → Went answers (point m t (Unsynced texts)) (point m' t' (syncing (Ready texts) r)) []
+  synced_laid m m' t t' texts r same (x, h, is) = went_one (point m t (Unsynced texts)) (Sends sync x) (point m' t' (syncing (Ready texts) r)) (h, same, inr (refl, ap (syncing (Ready texts)) is))
 
   pub updated : (m m' : State) (t t' : T) (text : Bytes) (left : Option (List ℕ)) (r : Result Bytes Stop) → m' ≡ m → ((x : Result Bytes TransportError) × answers t (update text) x t' × (r ≡ payload_in x)) → Went answers (point m t (Update text left)) (point m' t' (hearing (unwrap_or left (keys_to_try m)) r)) []
   updated m m' t t' text left r same (x, h, is) =
@@ -86,6 +96,9 @@ module _ {T : Type 0} {answers : Answering T} where
 
   pub put : (m m' : State) (t t' : T) (text : Bytes) (texts : List Bytes) (r : Result Bytes Stop) → m' ≡ m → ((x : Result Bytes TransportError) × answers t (put_of text) x t' × (r ≡ payload_in x)) → Went answers (point m t (Store (text ∷ texts))) (point m' t' (storing texts r)) []
   put m m' t t' text texts r same (x, h, is) = went_one (point m t (Store (text ∷ texts))) (Sends (put_of text) x) (point m' t' (storing texts r)) (h, same, (refl, ap (storing texts) is))
+
+  pub synced : (m m' : State) (t t' : T) (r : Result (Unit {0}) Stop) → m' ≡ m → ((x : Result Bytes TransportError) × answers t sync x t' × (r ≡ synced_in x)) → Went answers (point m t Sync) (point m' t' (syncing (Store []) r)) []
+  synced m m' t t' r same (x, h, is) = went_one (point m t Sync) (Sends sync x) (point m' t' (syncing (Store []) r)) (h, same, (refl, ap (syncing (Store [])) is))
 
   pub signed : (m m' : State) (t : T) (x : Result Bytes ClientError) (lost : List ℕ) → Leads m (Signs x lost) m' → Went answers (point m t (Store [])) (point m' t (committing x lost)) (signs (signed_by x lost))
   signed m m' t x lost h = went_one (point m t (Store [])) (Calls (Signs x lost)) (point m' t (committing x lost)) (h, refl, refl)

@@ -23,6 +23,7 @@ use Rattle.file_session.specs.Went.{Agrees, Answering, At, point, Event, Begun, 
 use Rattle.file_session.proofs.Given.{given_from}
 use Rattle.file_session.proofs.Once.{asked_once}
 use Rattle.file_session.proofs.Runs.{lacks_leaves, went_as, went_then}
+use Rattle.file_session.proofs.Synced.{all_sign_synced, at_start}
 
 tells_are : {A : Type 0} (o : Outcome) (x : _) → IsPlanOf {A = A} o (plan.Tells x) → o ≡ Tells (answer_of x)
 tells_are (Tells told) x is = ap Tells (sym is)
@@ -156,6 +157,7 @@ module _ {T : Type 0} {answers : Answering T} where
     finished = (tt, none, unfinished);
     carried = tt;
     given = given_from answers (point s t (resuming s.phase s.text)) (point new t' (Over e)) s.phase s.text h.went.moves (Err e) refl refl h.went.run;
+    synced = all_sign_synced answers (point s t (resuming s.phase s.text)) h.went.moves (point new t' (Over e)) false (at_start s.phase s.text) h.went.run;
     once = asked_once answers (point s t (resuming s.phase s.text)) h.went.moves (point new t' (Over e)) h.went.run;
   }
 
@@ -172,5 +174,6 @@ module _ {T : Type 0} {answers : Answering T} where
         finished = reached s h.signed k.es r resumed new k.some h.lost;
         carried = k.carried;
         given = given_from answers (point s t (resuming s.phase s.text)) (point new t' (ready_or r)) s.phase s.text both.moves r refl refl both.run;
+        synced = all_sign_synced answers (point s t (resuming s.phase s.text)) both.moves (point new t' (ready_or r)) false (at_start s.phase s.text) both.run;
         once = asked_once answers (point s t (resuming s.phase s.text)) both.moves (point new t' (ready_or r)) both.run;
       }

@@ -3,6 +3,7 @@ pub mod Declaring
 pub mod Calls
 pub mod Tries
 pub mod Order
+pub mod Synced
 pub mod Went
 pub mod Given
 pub mod Waits

@@ -1,5 +1,5 @@
 -- The order of an operation: what has to come next in a session, and what may come of each move.
-use Rattle.std.specs.Prelude.{◌≡◌, ℕ, true, false, List, [], ◌∷◌, ◌++◌, map, Option, Some, None, Result, Ok, Err}
+use Rattle.std.specs.Prelude.{◌≡◌, ◌⊎◌, ℕ, true, false, List, [], ◌∷◌, ◌++◌, map, Option, Some, None, Result, Ok, Err}
 use Rattle.std.specs.Option.{unwrap_or}
 use Rattle.std.specs.Vec.{vec_items}
 use Rattle.std.specs.declared.vec.Vec.{Vec}
@@ -19,7 +19,7 @@ use Rattle.file_session.specs.declared.stop.Stop.{Stop}
 use Rattle.file_session.specs.declared.stop.Stop.TheVariants as stop
 use Rattle.transport.specs.declared.transport.TransportError.{TransportError}
 use Rattle.transport.specs.Asked.{Asked}
-use Rattle.file_session.specs.Replies.{payload_in, block_in, status_in}
+use Rattle.file_session.specs.Replies.{payload_in, block_in, status_in, synced_in}
 use Rattle.client_verify.specs.State.{State}
 use Rattle.file_session.specs.Calls.{Call, Begins, Resigns, Hears, Takes, Signs, Commits, Looks, Gives}
 use Rattle.file_session.specs.Tries.{can_declare, keys_to_try}
@@ -36,8 +36,11 @@ pub data Move : Type 0 where
 -- ---- what has to come next
 
 pub data Next : Type 0 where
-  -- nothing is under way: an operation may begin for which these texts were stored, or a look where there are none
+  -- nothing is under way: an operation may begin for which these texts were stored and synced, or a look where there are
+  -- none
   Ready : List Bytes → Next
+  -- these texts were stored for an operation, and are to be synced before it begins
+  Unsynced : List Bytes → Next
   -- the certificate is to be sent, and its reply handed in; once its signature was declined, these keys are left to try
   Update : Bytes → Option (List ℕ) → Next
   Hear : Bytes → Next
@@ -46,8 +49,10 @@ pub data Next : Type 0 where
   -- the block is to be asked for, and handed in
   Fetch : Digest → Next
   Take : Option Bytes → Next
-  -- these texts are to be stored, and then the structure signed
+  -- these texts are to be stored and synced, and then the structure signed; where there are none, it is signed
   Store : List Bytes → Next
+  -- all of them were stored, and are to be synced before the structure is signed
+  Sync : Next
   -- the structure is to be sent, and the status handed in; of one that was signed just now the numbers of the changes
   -- that its view loses are copied first, if there are any
   CommitNew : Bytes → List ℕ → Next
@@ -60,7 +65,7 @@ pub data Next : Type 0 where
   Over : Stop → Next
 
 abbrev pub laying : List Bytes → Bytes → Result Bytes Stop → Next
-laying laid text (Ok digest) = Ready (laid ++ text ∷ [])
+laying laid text (Ok digest) = Unsynced (laid ++ text ∷ [])
 laying laid text (Err e) = Over e
 
 abbrev pub declaring : Result Bytes ClientError → Next
@@ -95,9 +100,19 @@ abbrev pub taking : Result (Option Bytes) Stop → Next
 taking (Ok block) = Take block
 taking (Err e) = Over e
 
+-- once a text was stored, the others are; after the last they are synced
+abbrev pub left_to_store : List Bytes → Next
+left_to_store [] = Sync
+left_to_store (text ∷ texts) = Store (text ∷ texts)
+
 abbrev pub storing : List Bytes → Result Bytes Stop → Next
-storing texts (Ok digest) = Store texts
+storing texts (Ok digest) = left_to_store texts
 storing texts (Err e) = Over e
+
+-- what comes once the texts are synced
+abbrev pub syncing : Next → Result (Unit {0}) Stop → Next
+syncing next (Ok x) = next
+syncing next (Err e) = Over e
 
 abbrev pub committing : Result Bytes ClientError → List ℕ → Next
 committing (Ok text) lost = CommitNew text lost
@@ -124,6 +139,9 @@ giving q (Err e) = Over e
 abbrev pub put : Bytes → Asked
 put text = record { kind = kind.Put; payload = text }
 
+abbrev pub sync : Asked
+sync = record { kind = kind.Sync; payload = [] }
+
 abbrev pub update : Bytes → Asked
 update text = record { kind = kind.Update; payload = text }
 
@@ -133,14 +151,19 @@ get digest = record { kind = kind.Get; payload = digest }
 abbrev pub commit : Bytes → Asked
 commit text = record { kind = kind.Commit; payload = text }
 
--- what may be asked where an operation may begin: that a text be stored
+-- what may be asked before an operation begins: that one more text be stored for it
 abbrev pub FollowsStored : List Bytes → Asked → Result Bytes TransportError → Next → Type 0
 FollowsStored laid r x next = (r ≡ put r.payload) × (next ≡ laying laid r.payload (payload_in x))
+
+-- that all that was stored be synced
+abbrev pub FollowsSynced : Next → Asked → Result Bytes TransportError → Next → Type 0
+FollowsSynced after r x next = (r ≡ sync) × (next ≡ syncing after (synced_in x))
 
 -- From what has to come next, this move of a client that is so before it, and what has to come then.
 abbrev pub Follows : State → Next → Move → Next → Type 0
 Follows s (Over e) move next = ⊥
 Follows s (Ready laid) (Sends r x) next = FollowsStored laid r x next
+Follows s (Unsynced laid) (Sends r x) next = FollowsStored laid r x next ⊎ FollowsSynced (Ready laid) r x next
 Follows s (Ready laid) (Calls (Begins changes texts x)) next =
     (can_declare s ≡ true) × (texts ≡ laid) × (next ≡ declaring x)
 Follows s (Ready laid) (Calls (Looks q x)) next = (laid ≡ []) × (next ≡ looking q x)
@@ -153,6 +176,7 @@ Follows s (Hear text) (Calls (Hears reply x)) next = (reply ≡ text) × (next �
 Follows s (Fetch digest) (Sends r x) next = (r ≡ get digest) × (next ≡ taking (block_in x))
 Follows s (Take block) (Calls (Takes handed x)) next = (handed ≡ block) × (next ≡ checking x)
 Follows s (Store (text ∷ texts)) (Sends r x) next = (r ≡ put text) × (next ≡ storing texts (payload_in x))
+Follows s Sync (Sends r x) next = FollowsSynced (Store []) r x next
 Follows s (Store []) (Calls (Signs x lost)) next = next ≡ committing x lost
 Follows s (CommitNew text lost) (Sends r x) next = (r ≡ commit text) × (next ≡ telling (status_in x))
 Follows s (CommitNew text (n ∷ lost)) LacksNumbers next = next ≡ Over stop.Memory
@@ -175,12 +199,12 @@ abbrev pub ready_or : {X : Type 0} → Result X Stop → Next
 ready_or (Ok x) = Ready []
 ready_or (Err e) = Over e
 
--- texts that were stored for an operation
+-- texts that were stored and synced for an operation
 abbrev pub laid_or : {X : Type 0} → List Bytes → Result X Stop → Next
 laid_or laid (Ok x) = Ready laid
 laid_or laid (Err e) = Over e
 
--- texts that are to be stored, and where they were
+-- texts that are to be stored, and where they were, and are synced
 abbrev pub stores_or : {A : Type 0} → Result (Vec (Vec ℕ A) A) Stop → Next
 stores_or (Ok texts) = Store (texts_of texts)
 stores_or (Err e) = Over e

@@ -32,6 +32,13 @@ block_by status.Ok payload = Ok (Some payload)
 block_by status.Absent payload = Ok None
 block_by other payload = Err (stop.Declined other)
 
+-- that all that was stored is synced; where the server doesn't know the request it keeps nothing, and nothing is to wait
+-- for
+abbrev pub synced_by : Status → Result (Unit {0}) Stop
+synced_by status.Ok = Ok tt
+synced_by status.Form = Ok tt
+synced_by other = Err (stop.Declined other)
+
 abbrev pub then : {T U : Type 0} → (T → Result U Stop) → Result T Stop → Result U Stop
 then next (Ok x) = next x
 then next (Err e) = Err e
@@ -43,6 +50,10 @@ payload_in answer = then (λ r. payload_by r.0 r.1) (reply_in answer)
 -- of one for a block
 abbrev pub block_in : Result Bytes TransportError → Result (Option Bytes) Stop
 block_in answer = then (λ r. block_by r.0 r.1) (reply_in answer)
+
+-- of one that texts be synced
+abbrev pub synced_in : Result Bytes TransportError → Result (Unit {0}) Stop
+synced_in answer = then (λ r. synced_by r.0) (reply_in answer)
 
 -- of a commit
 abbrev pub status_in : Result Bytes TransportError → Result Status Stop

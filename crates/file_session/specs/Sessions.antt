@@ -1,5 +1,5 @@
 -- What a session promises.
-use Rattle.std.specs.Prelude.{◌≡◌, ◌⊎◌, ℕ, List, [], ◌∷◌, ◌++◌, Option, Some, None, Result, Ok, Err}
+use Rattle.std.specs.Prelude.{◌≡◌, ◌⊎◌, ℕ, false, List, [], ◌∷◌, ◌++◌, Option, Some, None, Result, Ok, Err}
 use Rattle.layout.specs.Types.{Bytes, Digest, User, Version}
 use Rattle.update_cert.specs.Change.{Change}
 use Rattle.update_cert.specs.World.{Content, Tree}
@@ -19,6 +19,7 @@ use Rattle.file_session.specs.Declaring.{all_declared, all_texts}
 use Rattle.file_session.specs.Given.{IsGiven}
 use Rattle.file_session.specs.Calls.{AsksForLacking}
 use Rattle.file_session.specs.Order.{Move, Calls, ready_or, resuming}
+use Rattle.file_session.specs.Synced.{AllSignSynced}
 use Rattle.file_session.specs.Went.{Agrees, Answering, At, Event, Begun, Seen, Signed, Unbegun, Unplanned, events}
 use Rattle.file_session.specs.Went.{looks, Moves}
 use Rattle.file_session.specs.Went.{point, signs}
@@ -157,4 +158,5 @@ pub record Ran {T : Type 0} (answers : Answering T) (s : State) (t : T) (u : Use
   pub finished : IsResumed s signed es result resumed new
   pub carried : IsCommand u c es result new
   pub given : IsGivenFrom s.phase moves result
+  pub synced : AllSignSynced false moves
   pub once : AreAskedOnce answers (point s t (resuming s.phase s.text)) moves (point new t' (ready_or result)) run

@@ -7,7 +7,9 @@ ghost use Rattle.layout.specs.Types.{Bytes};
 ghost use Rattle.wire.specs.Frame.{reply_of};
 ghost use Rattle.client_steps.specs.Anywhere.{on_ok};
 ghost use Rattle.transport.specs.declared.transport.TransportError.{TransportError as NoReply};
+ghost use Rattle.file_session.specs.Order.{sync};
 ghost use Rattle.file_session.specs.Replies.{block_by, block_in, payload_by, payload_in, reply_in, status_in};
+ghost use Rattle.file_session.specs.Replies.{synced_by, synced_in};
 
 use crate::stop::Stop;
 use std::alloc::Allocator;
@@ -100,6 +102,16 @@ fn block_by<A: Allocator>(status: Status, payload: Payload<A>) -> Result<Option<
     }
 }
 
+/// That all is synced, by the status: also where the server keeps nothing.
+fn synced_by(status: Status) -> Result<(), Stop>
+    ensures { result ≡ synced_by status }
+{
+    match status {
+        Status::Ok | Status::Form => Ok(()),
+        declined => Err(Stop::Declined(declined)),
+    }
+}
+
 /// One exchange, and the reply that came. What is ahead may be sent already.
 fn exchange<T: Transport<A>, A: Allocator>(
     transport: &mut T,
@@ -145,6 +157,17 @@ pub(crate) fn fetch<T: Transport<A>, A: Allocator>(
 {
     match exchange(transport, RequestKind::Get, digest, ahead) {
         Ok((status, payload)) => block_by(status, payload),
+        Err(stop) => Err(stop),
+    }
+}
+
+/// Asks that each text that was stored is kept, whatever becomes of the server. One that keeps nothing knows no such
+/// request, and that is enough.
+pub(crate) fn sync<T: Transport<A>, A: Allocator>(transport: &mut T) -> Result<(), Stop>
+    ensures { (x : Result Bytes NoReply) × T.answers transport.old sync x transport.new × (result ≡ synced_in x) }
+{
+    match exchange(transport, RequestKind::Sync, &[], &Ahead::Nothing) {
+        Ok((status, _)) => synced_by(status),
         Err(stop) => Err(stop),
     }
 }

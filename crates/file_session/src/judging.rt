@@ -9,7 +9,7 @@ ghost use Rattle.file_session.specs.Went.{Went, point};
 
 use crate::calls::take;
 use crate::conversation::Conversation;
-use crate::exchanging::{fetch, send, text_of};
+use crate::exchanging::{fetch, send, sync, text_of};
 use crate::stop::Stop;
 use crate::turn::{Turn, turn_of_step};
 use client_verify::{ClientError, Step};
@@ -67,8 +67,9 @@ impl<L: Device, J: Device, T: Transport<A>, A: Allocator + Copy> Conversation<L,
         }
     }
 
-    /// Stores these texts: those that a reply handed out, or those of an operation that is to be declared. Later ones
-    /// go ahead of the replies to earlier ones.
+    /// Stores these texts: those that a reply handed out, or those of an operation that is to be declared. Once they
+    /// are stored, they are synced, so that what is signed then never names a text that the server may lose. Later
+    /// requests go ahead of the replies to earlier ones.
     pub(crate) fn store(&mut self, texts: &[Vec<u8, A>]) -> Result<(), Stop>
         ensures handed_out { Went T.answers (point self.old.client self.old.transport (Store (map vec_items texts.now)))
             (point self.new.client self.new.transport (stored_or result)) [] }
@@ -76,12 +77,15 @@ impl<L: Device, J: Device, T: Transport<A>, A: Allocator + Copy> Conversation<L,
             (point self.new.client self.new.transport (laid_or (map vec_items texts.now) result)) [] }
         ensures same { self.new.client ≡ self.old.client }
     {
+        if texts.is_empty() {
+            return Ok(());
+        }
         let mut later = texts;
         for text in texts {
             later = later.get(1..).unwrap_or_default();
             let ahead = Ahead::Puts(later);
             let _digest = send(&mut self.transport, RequestKind::Put, text, &ahead)?;
         }
-        Ok(())
+        sync(&mut self.transport)
     }
 }

@@ -21,7 +21,8 @@ use transport::Transport;
 use update_cert::{Change, MOST_CHANGES};
 
 impl<L: Device, J: Device, T: Transport<A>, A: Allocator + Copy> Conversation<L, J, T, A> {
-    /// An operation of these changes, for which these texts were stored: the numbers of those that had no effect.
+    /// An operation of these changes, for which these texts were stored and synced: the numbers of those that had no
+    /// effect.
     pub(crate) fn operate(
         &mut self,
         changes: &[Change<A>],
@@ -44,8 +45,8 @@ impl<L: Device, J: Device, T: Transport<A>, A: Allocator + Copy> Conversation<L,
         }
     }
 
-    /// An operation of these changes, whose texts are stored first: the numbers of those that had no effect. Nothing is
-    /// sent where the newest key hasn't the leaves for it.
+    /// An operation of these changes, whose texts are stored and synced first: the numbers of those that had no effect.
+    /// Nothing is sent where the newest key hasn't the leaves for it.
     pub(crate) fn write(
         &mut self,
         changes: &[Change<A>],
