@@ -1,5 +1,5 @@
 -- From the call that begins an operation to the one that signs, it is the one that the client declared last.
-use Rattle.std.proofs.Common.{◌≡◌, ℕ, List, [], ◌∷◌, Option, Result, Ok, Err, refl, sym, subst}
+use Rattle.std.proofs.Common.{◌≡◌, ℕ, List, [], ◌∷◌, Option, Result, Ok, Err, refl, sym, subst, inl, inr}
 use Rattle.std.specs.Option.{unwrap_or}
 use Rattle.layout.specs.Types.{Bytes, Digest}
 use Rattle.update_cert.specs.Change.{Change}
@@ -20,9 +20,9 @@ use Rattle.file_session.specs.declared.stop.Stop.{Stop}
 use Rattle.file_session.specs.declared.stop.Stop.TheVariants as stop
 use Rattle.file_session.specs.Calls.{Begins, Call, Commits, Gives, Hears, Looks, Resigns, Signs, Takes}
 use Rattle.file_session.specs.Calls as session
-use Rattle.file_session.specs.Order.{Calls, Commit, CommitNew, Fetch, FetchAt, Follows, GiveAt, Hear, LacksLeaves, LacksNumbers, LacksPlan, Next, Over, Ready, Resign, Sends, Store, Take, Tell, Update}
+use Rattle.file_session.specs.Order.{Calls, Commit, CommitNew, Fetch, FetchAt, Follows, GiveAt, Hear, LacksLeaves, LacksNumbers, LacksPlan, Next, Over, Ready, Resign, Sends, Store, Sync, Take, Tell, Unsynced, Update}
 use Rattle.file_session.specs.Order as order
-use Rattle.file_session.specs.Replies.{block_in, payload_in, status_in}
+use Rattle.file_session.specs.Replies.{block_in, payload_in, status_in, synced_in}
 use Rattle.file_session.specs.Tries.{keys_to_try}
 use Rattle.session_runs.specs.Told.{OfChanges, OfNumber, Operation}
 use Rattle.session_runs.proofs.Declared.{HasDeclared, begins, resigns, still_has}
@@ -40,6 +40,7 @@ IsUnderWay (Hear text) begun s = HasDeclared begun s
 IsUnderWay (Fetch digest) begun s = HasDeclared begun s
 IsUnderWay (Take block) begun s = HasDeclared begun s
 IsUnderWay (Store texts) begun s = HasDeclared begun s
+IsUnderWay Sync begun s = HasDeclared begun s
 IsUnderWay other begun s = Unit {0}
 
 pub at_start : (p : Phase) (text : Bytes) (s : State) → IsUnderWay (order.resuming p text) (OfNumber s.number) s
@@ -79,9 +80,17 @@ module _ (begun : Operation) (s : State) where
   taking (Ok block) has = has
   taking (Err e) has = tt
 
+  left_to_store : (texts : List Bytes) → HasDeclared begun s → IsUnderWay (order.left_to_store texts) begun s
+  left_to_store [] has = has
+  left_to_store (text ∷ texts) has = has
+
   storing : (texts : List Bytes) (x : Result Bytes Stop) → HasDeclared begun s → IsUnderWay (order.storing texts x) begun s
-  storing texts (Ok digest) has = has
+  storing texts (Ok digest) has = left_to_store texts has
   storing texts (Err e) has = tt
+
+  syncing : (next : Next) (x : Result (Unit {0}) Stop) → IsUnderWay next begun s → IsUnderWay (order.syncing next x) begun s
+  syncing next (Ok x) is = is
+  syncing next (Err e) is = tt
 
   committing : (x : Result Bytes ClientError) (lost : List ℕ) → IsUnderWay (order.committing x lost) begun s
   committing (Ok text) lost = tt
@@ -113,10 +122,13 @@ module _ (begun : Operation) (s : State) where
 
   pub sent : (n : Next) (r : Asked) (x : Result Bytes TransportError) (m : Next) → Follows s n (Sends r x) m → IsUnderWay n begun s → IsUnderWay m begun s
   sent (Ready laid) r x m h is = at_next m _ begun s h.1 (laying laid r.payload (payload_in x))
+  sent (Unsynced laid) r x m (inl h) is = at_next m _ begun s h.1 (laying laid r.payload (payload_in x))
+  sent (Unsynced laid) r x m (inr h) is = at_next m _ begun s h.1 (syncing (Ready laid) (synced_in x) tt)
   sent (Update text left) r x m h is = at_next m _ begun s h.1 (hearing (unwrap_or left (keys_to_try s)) (payload_in x) is)
   sent (Fetch digest) r x m h is = at_next m _ begun s h.1 (taking (block_in x) is)
   sent (Store (text ∷ texts)) r x m h is = at_next m _ begun s h.1 (storing texts (payload_in x) is)
   sent (Store []) r x m h is = absurd h
+  sent Sync r x m h is = at_next m _ begun s h.1 (syncing (Store []) (synced_in x) is)
   sent (CommitNew text lost) r x m h is = at_next m _ begun s h.1 (telling (status_in x))
   sent (Commit text) r x m h is = at_next m _ begun s h.1 (telling (status_in x))
   sent (FetchAt q digest) r x m h is = at_next m _ begun s h.1 (giving q (block_in x))

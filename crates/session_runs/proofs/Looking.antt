@@ -1,5 +1,5 @@
 -- While a session looks, its client looks for the answer to the session's question.
-use Rattle.std.proofs.Common.{◌≡◌, ◌<◌, ℕ, List, [], ◌∷◌, Option, Some, None, Result, Ok, Err, IfSome, IsSome, IsSomeAnd, refl, sym, ap, ◌∙◌, subst}
+use Rattle.std.proofs.Common.{◌≡◌, ◌<◌, ℕ, List, [], ◌∷◌, Option, Some, None, Result, Ok, Err, IfSome, IsSome, IsSomeAnd, refl, sym, ap, ◌∙◌, subst, inl, inr}
 use Rattle.std.specs.Option.{unwrap_or}
 use Rattle.layout.specs.Types.{Bytes, Digest}
 use Rattle.update_cert.specs.Change.{Change}
@@ -21,9 +21,9 @@ use Rattle.file_session.specs.declared.stop.Stop.{Stop}
 use Rattle.file_session.specs.declared.stop.Stop.TheVariants as stop
 use Rattle.file_session.specs.Calls.{Begins, Call, Commits, Gives, Hears, Looks, Resigns, Signs, Takes, step_of}
 use Rattle.file_session.specs.Calls as session
-use Rattle.file_session.specs.Order.{Calls, Commit, CommitNew, Fetch, FetchAt, Follows, GiveAt, Hear, LacksLeaves, LacksNumbers, LacksPlan, Move, Next, Over, Ready, Resign, Sends, Store, Take, Tell, Update}
+use Rattle.file_session.specs.Order.{Calls, Commit, CommitNew, Fetch, FetchAt, Follows, GiveAt, Hear, LacksLeaves, LacksNumbers, LacksPlan, Move, Next, Over, Ready, Resign, Sends, Store, Sync, Take, Tell, Unsynced, Update}
 use Rattle.file_session.specs.Order as order
-use Rattle.file_session.specs.Replies.{block_in, payload_in, status_in}
+use Rattle.file_session.specs.Replies.{block_in, payload_in, status_in, synced_in}
 use Rattle.file_session.specs.Tries.{keys_to_try}
 
 -- a look is under way for this question
@@ -82,9 +82,17 @@ taking : (x : Result (Option Bytes) Stop) → IsNoLook (order.taking x)
 taking (Ok block) = tt
 taking (Err e) = tt
 
+left_to_store : (texts : List Bytes) → IsNoLook (order.left_to_store texts)
+left_to_store [] = tt
+left_to_store (text ∷ texts) = tt
+
 storing : (texts : List Bytes) (x : Result Bytes Stop) → IsNoLook (order.storing texts x)
-storing texts (Ok digest) = tt
+storing texts (Ok digest) = left_to_store texts
 storing texts (Err e) = tt
+
+syncing : (next : Next) (x : Result (Unit {0}) Stop) → IsNoLook next → IsNoLook (order.syncing next x)
+syncing next (Ok x) none = none
+syncing next (Err e) none = tt
 
 committing : (x : Result Bytes ClientError) (lost : List ℕ) → IsNoLook (order.committing x lost)
 committing (Ok text) lost = tt
@@ -112,10 +120,13 @@ resuming phase.Failed text s = tt
 
 pub sent : (n : Next) (r : Asked) (x : Result Bytes TransportError) (m : Next) (s : State) → Follows s n (Sends r x) m → IsLooking n s → IsLooking m s
 sent (Ready laid) r x m s h is = at_next m _ s h.1 (no_look _ s (laying laid r.payload (payload_in x)))
+sent (Unsynced laid) r x m s (inl h) is = at_next m _ s h.1 (no_look _ s (laying laid r.payload (payload_in x)))
+sent (Unsynced laid) r x m s (inr h) is = at_next m _ s h.1 (no_look _ s (syncing (Ready laid) (synced_in x) tt))
 sent (Update text left) r x m s h is = at_next m _ s h.1 (no_look _ s (hearing (unwrap_or left (keys_to_try s)) (payload_in x)))
 sent (Fetch digest) r x m s h is = at_next m _ s h.1 (no_look _ s (taking (block_in x)))
 sent (Store (text ∷ texts)) r x m s h is = at_next m _ s h.1 (no_look _ s (storing texts (payload_in x)))
 sent (Store []) r x m s h is = absurd h
+sent Sync r x m s h is = at_next m _ s h.1 (no_look _ s (syncing (Store []) (synced_in x) tt))
 sent (CommitNew text lost) r x m s h is = at_next m _ s h.1 (no_look _ s (telling (status_in x)))
 sent (Commit text) r x m s h is = at_next m _ s h.1 (no_look _ s (telling (status_in x)))
 sent (FetchAt q digest) r x m s h is = at_next m _ s h.1 (giving q s (block_in x) is)
