@@ -66,13 +66,15 @@ static READ: [(Turn, &str); 7] = [
     (Turn::Ended(BEFORE + 1), "4 cut|"),
 ];
 
-/// How the replies come to a process that puts a file of three blocks, whose four texts it stores, and what it ends with.
-/// The reply to a text tells nothing that is used; what is no reply to a certificate is refused.
-static WRITTEN: [(Turn, &str); 6] = [
+/// How the replies come to a process that puts a file of three blocks, whose four texts it stores and has synced, and
+/// what it ends with. The reply to a text tells nothing that is used but its status; that of a server that keeps nothing
+/// to SYNC is status 1, which no text is answered with, nor a certificate.
+static WRITTEN: [(Turn, &str); 7] = [
     (Turn::Swapped(BEFORE), "0 done|"),
-    (Turn::Missing(BEFORE), "4 cut|"),
-    (Turn::Missing(BEFORE + 3), "4 cut|"),
-    (Turn::Twice(BEFORE), "2 broken 1 Form|"),
+    (Turn::Missing(BEFORE), "3 declined 1|"),
+    (Turn::Missing(BEFORE + 3), "3 declined 1|"),
+    (Turn::Missing(BEFORE + 4), "4 cut|"),
+    (Turn::Twice(BEFORE), "3 declined 1|"),
     (Turn::Ended(BEFORE), "4 cut|"),
     (Turn::Ended(BEFORE + 2), "4 cut|"),
 ];

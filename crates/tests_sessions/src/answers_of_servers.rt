@@ -15,7 +15,7 @@ use wire::RequestKind;
 type Lie = (RequestKind, &'static [u8], &'static str);
 
 /// How many lies there are about requests of a kind.
-const LIES: usize = 14;
+const LIES: usize = 16;
 
 /// Each lie in turn: a status alone, a status that there isn't, no status, a payload beside another status than 0, and
 /// texts that are no reply, or not the block that was asked for.
@@ -34,7 +34,9 @@ fn lie(number: usize) -> Lie {
         10 => (RequestKind::Get, b"\x08\x00", "4 cut|"),
         11 => (RequestKind::Get, b"\xff", "4 cut|"),
         12 => (RequestKind::Put, b"\x07", "3 declined 7|"),
-        _ => (RequestKind::Put, b"", "4 cut|"),
+        13 => (RequestKind::Put, b"", "4 cut|"),
+        14 => (RequestKind::Sync, b"\x09", "3 declined 9|"),
+        _ => (RequestKind::Sync, b"\x01\0", "4 cut|"),
     }
 }
 
@@ -42,7 +44,7 @@ fn lie(number: usize) -> Lie {
 fn leaves_it_declared(kind: RequestKind) -> bool {
     match kind {
         RequestKind::Update | RequestKind::Get => true,
-        RequestKind::Commit | RequestKind::Put => false,
+        RequestKind::Commit | RequestKind::Put | RequestKind::Sync => false,
     }
 }
 
@@ -98,14 +100,17 @@ type LieAt = (usize, &'static [u8], &'static str);
 const BEFORE_LOOKS_COMMIT: usize = 1 + 1 + 2;
 
 /// What it sends before the certificate of the operation that puts the file: the commit of the look, two blocks of the
-/// root directory, and the two texts of the file.
-const BEFORE_UPDATE: usize = BEFORE_LOOKS_COMMIT + 1 + 2 + 2;
+/// root directory, the two texts of the file, and SYNC.
+const BEFORE_UPDATE: usize = BEFORE_LOOKS_COMMIT + 1 + 2 + 2 + 1;
 
-/// What it sends before the commit of that operation: the certificate, and four texts.
-const BEFORE_COMMIT: usize = BEFORE_UPDATE + 1 + 4;
+/// What it sends before the SYNC of that operation: the certificate, and four texts.
+const BEFORE_SYNC: usize = BEFORE_UPDATE + 1 + 4;
+
+/// What it sends before the commit of that operation.
+const BEFORE_COMMIT: usize = BEFORE_SYNC + 1;
 
 /// How many lies there are about single requests.
-const LIES_AT: usize = 11;
+const LIES_AT: usize = 13;
 
 /// Each lie about the operations of a process that puts a new file. A server that tells a commit that it doesn't carry
 /// out is told it again.
@@ -121,6 +126,8 @@ fn lie_at(number: usize) -> LieAt {
         7 => (BEFORE_COMMIT, b"\x05", "3 declined 5|"),
         8 => (BEFORE_COMMIT, b"\x09", "3 declined 9|"),
         9 => (BEFORE_COMMIT, b"\x09\x00", "4 cut|"),
+        10 => (BEFORE_SYNC, b"\x09", "3 declined 9|"),
+        11 => (BEFORE_SYNC, b"", "4 cut|"),
         _ => (BEFORE_COMMIT, b"\0more", "0 done|"),
     }
 }
@@ -140,7 +147,8 @@ fn is_told_at(rt: &impl Aided, town: &mut Town, number: usize, (at, body, end): 
     town.set(rt, Trouble::Nothing);
     let outcome = run(rt, town, &cat, b"");
     let finished = !outcome.resumed.is_empty();
-    check(rt, finished == (at == BEFORE_UPDATE), "it is finished");
+    let is_unsigned = at == BEFORE_UPDATE || at == BEFORE_SYNC;
+    check(rt, finished == is_unsigned, "it is finished");
     let printed = if at == BEFORE_LOOKS_COMMIT {
         "no path|"
     } else {
@@ -150,12 +158,19 @@ fn is_told_at(rt: &impl Aided, town: &mut Town, number: usize, (at, body, end): 
     check_text(rt, &text, printed.as_bytes());
 }
 
-/// So is each lie, one after another.
+/// So is each lie, one after another. A server that says that it synced what it stored is believed.
 fn all_are_told_at(rt: &impl Aided, town: &mut Town) {
     all_end(rt, town, SETTLED);
     for number in 0..LIES_AT {
         is_told_at(rt, town, number, lie_at(number));
     }
+    town.set(rt, Trouble::Lies(RequestKind::Sync, b"\0"));
+    let requests = ends(rt, town, "0 put /synced FILE", b"text", "0 done|");
+    check(
+        rt,
+        requests == BEFORE_COMMIT.saturating_add(1),
+        "it is done",
+    );
 }
 
 #[test]

@@ -18,8 +18,12 @@ const LOOK: usize = 1 + 1 + 4 + 1;
 /// What tells the entries of the root directory, whose root and chunk are there by then: its i-node and its block.
 const ROOT: usize = 2;
 
-/// What else an operation has that writes: its certificate and its commit.
-const OPERATION: usize = 2;
+/// What else an operation has that writes: its certificate, SYNC once the texts of the own part are stored, and its
+/// commit.
+const OPERATION: usize = 3;
+
+/// SYNC once the texts of a file are stored, before its operation begins.
+const LAID: usize = 1;
 
 /// The root of an i-table and its chunk, which are stored for each change.
 const TABLE: usize = 2;
@@ -80,7 +84,7 @@ fn makes_new(rt: &impl Aided, town: &mut Town) {
         let command = format!(in rt.alloc(); "0 put /f{blocks} FILE");
         let command = given(rt, command, "memory");
         let file = blocks_of(rt, blocks);
-        costs(rt, town, &command, &file, most + usize::from(blocks));
+        costs(rt, town, &command, &file, most + LAID + usize::from(blocks));
     }
     // An empty directory is known from the beginning.
     costs(rt, town, "0 mkdir /d", b"", most - INODE);
@@ -101,8 +105,8 @@ fn replaces(rt: &impl Aided, town: &mut Town) {
     let put = "0 put /f FILE";
     let _exchanges = ends(rt, town, put, &large, "0 done|");
     let most = LOOK + ROOT + INODE + OPERATION + TABLE;
-    costs(rt, town, put, &blocks_of(rt, 1), most + INODE + 1);
-    costs(rt, town, put, &large, most + INODE + 1024 + AGAIN);
+    costs(rt, town, put, &blocks_of(rt, 1), most + INODE + 1 + LAID);
+    costs(rt, town, put, &large, most + INODE + 1024 + LAID + AGAIN);
     costs(rt, town, "0 rm /f", b"", most + DIRECTORY);
 }
 
@@ -115,7 +119,7 @@ fn of_what_is_old(rt: HostRuntime) {
 }
 
 /// A new file of one block in a directory of one block.
-const NEW: usize = LOOK + ROOT + 1 + INODE + OPERATION + TABLE + DIRECTORY;
+const NEW: usize = LOOK + ROOT + 1 + INODE + LAID + OPERATION + TABLE + DIRECTORY;
 
 /// How many blocks more a directory of 1,000 names of five bytes has than one of ten: each name takes nine bytes, so
 /// that it has three blocks of 4,096 bytes. In one block at most 818 names have room, since the shortest take five

@@ -90,6 +90,8 @@ impl Honest {
             }
             RequestKind::Put => self.put(text),
             RequestKind::Get => self.get(text),
+            // It keeps nothing.
+            RequestKind::Sync => body(self.alloc, Status::Form, &[]),
         }
     }
 }

@@ -13,11 +13,12 @@ use tests_aids::{Aided, check, check_text, given};
 /// to be signed then.
 ///
 /// What was committed last goes out again. Then comes the look: its certificate, and two blocks; its structure; two
-/// blocks of the root directory, and the two texts of the file, which are stored. Then comes the operation that puts
-/// the file: its certificate, and the four texts of the own part, which are stored; its structure.
-static DECLARED: &[u8; EXCHANGES] = b"011111111222222";
+/// blocks of the root directory, and the two texts of the file, which are stored and then synced. Then comes the
+/// operation that puts the file: its certificate, and the four texts of the own part, which are stored and synced; its
+/// structure.
+static DECLARED: &[u8; EXCHANGES] = b"01111111112222222";
 
-static UNSIGNED: &[u8; EXCHANGES] = b"-yyy-----yyyyy-";
+static UNSIGNED: &[u8; EXCHANGES] = b"-yyy------yyyyyy-";
 
 /// What is said of an operation of this number where one was declared.
 fn resumed(rt: &impl Aided, declared: bool, number: u32) -> String {
@@ -75,7 +76,7 @@ fn goes_on(
 }
 
 /// A process that puts a new file of one block has so many exchanges.
-const EXCHANGES: usize = 15;
+const EXCHANGES: usize = 17;
 
 /// User 0 did three operations, and its root directory has a file.
 pub(crate) const SETTLED: &str = "\
@@ -87,7 +88,7 @@ pub(crate) const SETTLED: &str = "\
 const NOT_STOPPED: &str = "\
 0 put /f FILE < text -> 0 done|
 0 ls / -> 0 f 0:3|
-0 put /g FILE < text -> 0 done| # 15
+0 put /g FILE < text -> 0 done| # 17
 ";
 
 /// A process is stopped at each of its exchanges, whose request is lost, or is carried out.
