@@ -112,6 +112,7 @@ impl Server {
             RequestKind::Commit => self.call(CallKind::Commit, text),
             RequestKind::Put => self.put(text),
             RequestKind::Get => self.get(text),
+            RequestKind::Sync => Ok(Vec::new(self.alloc)),
         }
     }
 }
@@ -166,6 +167,10 @@ impl Times {
             RequestKind::Put | RequestKind::Get => {
                 self.taken = self.taken.saturating_add(before);
                 self.blocks = self.blocks.wrapping_add(1);
+                return;
+            }
+            RequestKind::Sync => {
+                self.taken = self.taken.saturating_add(before);
                 return;
             }
         }
