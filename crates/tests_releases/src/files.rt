@@ -1,13 +1,23 @@
-//! A device over a real file beside one in memory.
+//! A device over a real file beside one in memory, and what it takes of memory.
 
+use client_journal::{Journal, Record};
 use leaf_ledger::{Device, DeviceError, FileDevice, MemoryDevice};
 use std::alloc::Global;
 use std::fs::{self, File};
 use std::process::Abort;
+use tests_refusing::Refusing;
 
 const FOLDER: &str = "leaf_ledger_file_test";
 
 const PATH: &str = "leaf_ledger_file_test/device";
+
+const ROOM_FOLDER: &str = "leaf_ledger_room_test";
+
+const ROOM_PATH: &str = "leaf_ledger_room_test/device";
+
+const JOURNAL_FOLDER: &str = "journal_room_test";
+
+const JOURNAL_PATH: &str = "journal_room_test/journal";
 
 /// A call that a number draws, after one that asks for the length.
 fn draw<D: Device>(
@@ -79,4 +89,61 @@ fn what_the_system_does_not_sync_is_not_synced(rt: HostRuntime) {
     let mut device = FileDevice::over(file, Vec::new(alloc)).expect(&rt, "there is memory");
     assert!(rt; device.len().is_ok_and(|size| size == 0));
     assert!(rt; device.sync().is_err() && device.faults() == 1);
+}
+
+/// Writes so many bytes past the end, and syncs.
+fn append<D: Device>(device: &mut D, bytes: &[u8]) -> Result<(), DeviceError> {
+    let size = device.len()?;
+    device.write_at(size, bytes)?;
+    device.sync()?;
+    device.write_at(0, b"ab")?;
+    device.sync()
+}
+
+/// From the start on there is room for a new ledger, and where more is made, for that. Within it no write and no sync
+/// takes memory.
+#[test]
+fn within_its_room_a_file_takes_no_memory(rt: HostRuntime) {
+    let heap = Refusing::new(rt.alloc());
+    let _ = fs::remove_dir_all(&rt, ROOM_FOLDER);
+    fs::create_dir(&rt, ROOM_FOLDER).expect(&rt, "the folder is made");
+    let opened = FileDevice::open(&rt, &heap, ROOM_FOLDER, ROOM_PATH);
+    let mut device = opened.expect(&rt, "the file is made");
+    heap.refuse_all();
+    assert!(rt; append(&mut device, &[7; 1080]).is_ok());
+    heap.refuse(0);
+    assert!(rt; device.reserve(16_384).is_ok());
+    heap.refuse_all();
+    for _ in 0..128 {
+        assert!(rt; append(&mut device, &[8; 128]).is_ok());
+    }
+    assert!(rt; device.faults() == 0 && device.text().len() == 1080 + 16_384);
+    // Past it a write is a fault, and what is kept stays.
+    assert!(rt; append(&mut device, &[9; 32_768]).is_err() && device.faults() == 1);
+    assert!(rt; device.text().len() == 1080 + 16_384 && device.sync().is_ok());
+    assert!(rt; device.reserve(32_768).is_err() && device.faults() == 1);
+    let _ = fs::remove_dir_all(&rt, ROOM_FOLDER);
+}
+
+/// A new journal over a file is made without memory, and so is the record for which it made room.
+#[test]
+fn where_there_is_room_a_record_takes_no_memory(rt: HostRuntime) {
+    let heap = Refusing::new(rt.alloc());
+    let _ = fs::remove_dir_all(&rt, JOURNAL_FOLDER);
+    fs::create_dir(&rt, JOURNAL_FOLDER).expect(&rt, "the folder is made");
+    let opened = FileDevice::open(&rt, &heap, JOURNAL_FOLDER, JOURNAL_PATH);
+    let device = opened.expect(&rt, "the file is made");
+    heap.refuse_all();
+    let Ok(mut journal) = Journal::open(device) else {
+        panic!(rt; "the journal isn't made");
+    };
+    let text = [7; 20_000];
+    assert!(rt; journal.reserve(text.len()).is_err());
+    heap.refuse(0);
+    assert!(rt; journal.reserve(text.len()).is_ok());
+    heap.refuse_all();
+    let kind = journal.next();
+    let added = journal.append(Record { kind, text: &text });
+    assert!(rt; added.is_ok() && journal.device().text().len() == 1 + 5 + text.len() + 1);
+    let _ = fs::remove_dir_all(&rt, JOURNAL_FOLDER);
 }
