@@ -61,8 +61,16 @@ impl<L: Device, J: Device, A: Allocator + Copy> Client<L, J, A> {
         }
     }
 
-    /// The certificate of these changes, not signed yet. What was laid out for it goes into the cache, but where a look
-    /// is under way.
+    /// Makes room in the journal for the record of a text that is signed next.
+    pub(crate) fn make_room(&mut self, unsigned: &Unsigned<A>) -> Result<(), Memory>
+        ensures { self.new ≡ self.old }
+    {
+        self.releases.reserve(unsigned.text().len())?;
+        Ok(())
+    }
+
+    /// The certificate of these changes, not signed yet, with room for it in the journal. What was laid out for it goes
+    /// into the cache, but where a look is under way.
     fn certificate(
         &mut self,
         number: Version,
@@ -80,6 +88,7 @@ impl<L: Device, J: Device, A: Allocator + Copy> Client<L, J, A> {
         let last = digest_of_last(self.alloc, self.releases.last())?;
         let text = cert_text(self.alloc, self.releases.user(), number, last, changes)?;
         let unsigned = Unsigned::new(self.alloc, text)?;
+        self.make_room(&unsigned)?;
         self.lay_out(laid);
         Ok(unsigned)
     }
@@ -119,7 +128,7 @@ impl<L: Device, J: Device, A: Allocator + Copy> Client<L, J, A> {
 
     /// Declares the next operation, and gives its certificate, signed by the newest key, which stands in the journal by
     /// then. What was laid out for it goes into the cache, but where a look is under way. All growths come before the
-    /// leaf is taken. After Device the client has to be opened again.
+    /// leaf is taken, also the room for it in the journal. After Device the client has to be opened again.
     pub fn begin(
         &mut self,
         changes: &[Change<A>],

@@ -84,18 +84,21 @@ impl<L: Device, J: Device, A: Allocator + Copy> Client<L, J, A> {
         newest_signer(&self.releases, self.releases.text())
     }
 
-    /// The certificate that is declared, not signed yet.
-    fn unsigned(&self) -> Result<Unsigned<A>, Memory>
-        ensures { IfOk result (λ unsigned. unsigned ≡ unsigned_part self.now.text) }
+    /// The certificate that is declared, not signed yet, with room for it in the journal.
+    fn unsigned(&mut self) -> Result<Unsigned<A>, Memory>
+        ensures text { IfOk result (λ unsigned. unsigned ≡ unsigned_part self.old.text) }
+        ensures same { self.new ≡ self.old }
     {
         let text = self.releases.text();
         let unsigned = Vec::from_slice(self.alloc, &text[..unsigned_size(text)])?;
-        Unsigned::new(self.alloc, unsigned)
+        let unsigned = Unsigned::new(self.alloc, unsigned)?;
+        self.make_room(&unsigned)?;
+        Ok(unsigned)
     }
 
     /// Signs the certificate that is declared once more, by this key, and gives it as it is sent; it stands in the
     /// journal by then. A reply under check, or one that was accepted, is dropped. All growths come before the leaf is
-    /// taken. After Device the client has to be opened again.
+    /// taken, also the room for it in the journal. After Device the client has to be opened again.
     pub fn resign(&mut self, key: usize) -> Result<Vec<u8, A>, ClientError>
         requires declared { self.old.phase ≡ Phase.Declared }
         requires key { HasKey key (released self.old) }
@@ -121,7 +124,6 @@ impl<L: Device, J: Device, A: Allocator + Copy> Client<L, J, A> {
         ensures err { IfErr result (λ e. e ≢ ClientError.Device → self.new ≡ self.old) }
     {
         self.releases.type_invariant();
-        let _size = self.releases.key(key).as_bytes();
         if !self.releases.has_free_leaf(key) {
             return Err(ClientError::NoLeaf);
         }
@@ -129,6 +131,7 @@ impl<L: Device, J: Device, A: Allocator + Copy> Client<L, J, A> {
             Ok(unsigned) => unsigned,
             Err(_) => return Err(ClientError::Memory),
         };
+        let _size = self.releases.key(key).as_bytes();
         put_in(&mut self.progress, Progress::None);
         self.signer = if_same(self.signer, key);
         self.releases.resign(key, unsigned)

@@ -114,8 +114,8 @@ impl<L: Device, J: Device, A: Allocator + Copy> Client<L, J, A> {
         Ok((draft, copies))
     }
 
-    /// What is signed next: the key, which has a free leaf, and the structure over the accepted reply. All growths are
-    /// here.
+    /// What is signed next: the key, which has a free leaf, and the structure over the accepted reply. All growths but
+    /// the journal's are here.
     fn prepared(&self) -> Result<Prepared<A>, ClientError>
         requires { IsSome self.now.accepted }
         ensures signer { IfSome self.now.accepted (λ r. IfOk result (λ p. Some p.key ≡ signer_of self.now r)) }
@@ -151,7 +151,8 @@ impl<L: Device, J: Device, A: Allocator + Copy> Client<L, J, A> {
         }
     }
 
-    /// Signs what was prepared over the accepted reply. It takes no memory, and fails by the devices alone.
+    /// Signs what was prepared over the accepted reply. Where room was made for it, it takes no memory, and fails by the
+    /// devices alone.
     fn sign_prepared(&mut self, prepared: Prepared<A>) -> Result<Vec<u8, A>, ClientError>
         requires accepted { IsSome self.old.accepted }
         requires signer { IfSome self.old.accepted (λ r. Some prepared.key ≡ signer_of self.old r) }
@@ -214,7 +215,7 @@ impl<L: Device, J: Device, A: Allocator + Copy> Client<L, J, A> {
 
     /// Signs the structure over the accepted reply by the key that the table of principals names for it, and gives it
     /// as it is sent; it stands in the journal by then. From here on the view is accepted. All growths come before the
-    /// leaf is taken. After Device the client has to be opened again.
+    /// leaf is taken, also the room for it in the journal. After Device the client has to be opened again.
     pub fn sign(&mut self) -> Result<Vec<u8, A>, ClientError>
         requires { IsSome self.old.accepted }
         ensures signed { OnOk result (IfSome self.old.accepted (λ r. (leaf : LeafNumber)
@@ -255,10 +256,15 @@ impl<L: Device, J: Device, A: Allocator + Copy> Client<L, J, A> {
         ensures err { IfErr result (λ e. e ≢ ClientError.Device → self.new ≡ self.old) }
     {
         self.releases.type_invariant();
-        match self.prepared() {
-            Ok(prepared) => self.sign_prepared(prepared),
-            Err(error) => Err(error),
+        let prepared = match self.prepared() {
+            Ok(prepared) => prepared,
+            Err(error) => return Err(error),
+        };
+        if self.make_room(&prepared.draft.text).is_err() {
+            let_go(prepared);
+            return Err(ClientError::Memory);
         }
+        self.sign_prepared(prepared)
     }
 
     /// Takes the server's answer to the structure: with status 0 the operation is over, and any other changes nothing.

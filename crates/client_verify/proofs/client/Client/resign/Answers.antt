@@ -39,13 +39,13 @@ returns-in-Err-clause-any_moment g c leaf least =
     let r = c.self.inside.releases in
     let stands = stands_in r phase.Declared c.type_invariant.ensures (ap (λ (q : State). q.phase) c.self.view_is ∙ c.requires.declared) (λ two. cc two) in
     let has = subst (λ (o : Released). HasKey c.args.key o) (sym (ap released c.self.view_is)) c.requires.key in
-    refused_moments c.args.key r s s (ap released c.self.view_is) has stands refl (λ k. cert_record (resigned_text s c.args.key k)) leaf
+    refused_moments c.args.key r s c.unsigned.new.self (ap released c.self.view_is) has stands c.unsigned.ensures.same (λ k. cert_record (resigned_text s c.args.key k)) leaf
 
 pub returns-in-Err-clause-tried : goal.returns-in-Err-clause-tried
-returns-in-Err-clause-tried g c = refused_tried c.args.key c.args.self.now c.args.self.now refl (λ k. cert_record (resigned_text c.args.self.now c.args.key k))
+returns-in-Err-clause-tried g c = refused_tried c.args.key c.args.self.now c.unsigned.new.self c.unsigned.ensures.same (λ k. cert_record (resigned_text c.args.self.now c.args.key k))
 
 pub returns-in-Err-clause-others : goal.returns-in-Err-clause-others
-returns-in-Err-clause-others g c = none_used c.args.key c.args.self.now c.args.self.now refl
+returns-in-Err-clause-others g c = none_used c.args.key c.args.self.now c.unsigned.new.self c.unsigned.ensures.same
 
 pub returns-in-Err-clause-no_leaf : goal.returns-in-Err-clause-no_leaf
 returns-in-Err-clause-no_leaf g c = (
@@ -56,57 +56,57 @@ returns-in-Err-clause-no_leaf g c = (
 -- ---- signed once more
 
 pub key-requires : goal.key-requires
-key-requires g c = subst (λ (o : Released). HasKey c.args.key o) (sym (ap released c.self.view_is)) c.requires.key
+key-requires g c = subst (λ (o : Released). HasKey c.args.key o) (sym (ap released (c.self-2.view_is ∙ c.unsigned.ensures.same))) c.requires.key
 
 pub has_free_leaf-requires-clause-key : goal.has_free_leaf-requires-clause-key
 has_free_leaf-requires-clause-key g c = subst (λ (o : Released). HasKey c.args.key o) (sym (ap released c.self.view_is)) c.requires.key
 
 pub resign-requires-clause-key : goal.resign-requires-clause-key
-resign-requires-clause-key g c = subst (λ (o : Released). HasKey c.args.key o) (sym (ap released c.self.view_is)) c.requires.key
+resign-requires-clause-key g c = subst (λ (o : Released). HasKey c.args.key o) (sym (ap released (c.self-2.view_is ∙ c.unsigned.ensures.same))) c.requires.key
 
 pub resign-requires-clause-free : goal.resign-requires-clause-free
-resign-requires-clause-free g c = no_full c.args.key c.self.inside.releases c.self.inside.releases c.has_free_leaf.result refl c.has_free_leaf.ensures c.if-not-has_free_leaf.false
+resign-requires-clause-free g c = no_full c.args.key c.self.inside.releases c.self-2.inside.releases c.has_free_leaf.result (ap released c.self.view_is ∙ sym (ap released (c.self-2.view_is ∙ c.unsigned.ensures.same))) c.has_free_leaf.ensures c.if-not-has_free_leaf.false
 
 pub resign-requires-clause-same : goal.resign-requires-clause-same
-resign-requires-clause-same g c = c.in-Ok.ensures ∙ ap (λ (q : State). unsigned q.text) (sym c.self.view_is)
+resign-requires-clause-same g c = c.in-Ok.ensures.text ∙ ap (λ (q : State). unsigned q.text) (sym (c.self-2.view_is ∙ c.unsigned.ensures.same))
 
 pub invariant_of-self : goal.invariant_of-self
 invariant_of-self g c =
-    let r = c.self.inside.releases in
+    let r = c.self-2.inside.releases in
     let n = c.args.key in
     let new = c.resign.new.self in
-    let some : IsKeyUsedUp n r → ⊥ = no_full n r r c.has_free_leaf.result refl c.has_free_leaf.ensures c.if-not-has_free_leaf.false in
+    let some : IsKeyUsedUp n r → ⊥ = no_full n c.self.inside.releases r c.has_free_leaf.result (ap released c.self.view_is ∙ sym (ap released (c.self-2.view_is ∙ c.unsigned.ensures.same))) c.has_free_leaf.ensures c.if-not-has_free_leaf.false in
     rw c.put_in.ensures (
       record { of_checked = tt; of_accepted = tt },
-      kept_signer c.self.inside.signer c.if_same-self-inside.result n r new c.if_same-self-inside.ensures c.self.invariant.1
+      kept_signer c.self-2.inside.signer c.if_same-self-inside.result n r new c.if_same-self-inside.ensures c.self-2.invariant.1
           (own_after_again c.resign.result n r new c.as_bytes-size.result.now c.in-Ok.unsigned (c.as_bytes-size.ensures.same ∙ c.key.ensures) c.as_bytes-size.ensures.size some c.resign.ensures.resigned c.resign.ensures.err),
     )
 
 pub returns-clause-resigned : goal.returns-clause-resigned
 returns-clause-resigned g c =
     let s = c.args.self.now in
-    let r = c.self.inside.releases in
+    let r = c.self-2.inside.releases in
     let new = c.resign.new.self in
     rw c.put_in.ensures (on_ok_weaker c.resign.result
-    (λ d. signed_again r new s c.self.inside.pinned c.self.inside.blocks (checked_of c.self.inside.progress) (accepted_of c.self.inside.progress) c.self.inside.view c.self.view_is c.args.key c.in-Ok.unsigned d.0 c.in-Ok.ensures d.1 d.2) c.resign.ensures.resigned)
+    (λ d. signed_again r new s c.self-2.inside.pinned c.self-2.inside.blocks (checked_of c.self-2.inside.progress) (accepted_of c.self-2.inside.progress) c.self-2.inside.view (c.self-2.view_is ∙ c.unsigned.ensures.same) c.args.key c.in-Ok.unsigned d.0 c.in-Ok.ensures.text d.1 d.2) c.resign.ensures.resigned)
 
 pub returns-clause-any_moment : goal.returns-clause-any_moment
 returns-clause-any_moment g c =
     let s = c.args.self.now in
-    let r = c.self.inside.releases in
+    let r = c.self-2.inside.releases in
     let new = c.resign.new.self in
     let n = c.args.key in
     seen (λ (o : Released) (t : Bytes). (leaf : LeafNumber) → IsLeastFree (ledger_at n o.devices).file.now.text leaf → AnyMoment leaf (cert_record (sent o n leaf t)) (under n o.devices) (under n new.devices))
-    r (released s) c.in-Ok.unsigned (unsigned s.text) (ap released c.self.view_is) c.in-Ok.ensures c.resign.ensures.any_moment
+    r (released s) c.in-Ok.unsigned (unsigned s.text) (ap released (c.self-2.view_is ∙ c.unsigned.ensures.same)) c.in-Ok.ensures.text c.resign.ensures.any_moment
 
 pub returns-clause-tried : goal.returns-clause-tried
 returns-clause-tried g c =
     let s = c.args.self.now in
-    let r = c.self.inside.releases in
+    let r = c.self-2.inside.releases in
     let new = c.resign.new.self in
     let n = c.args.key in
     on_err_weaker c.resign.result
-    (seen (λ (o : Released) (t : Bytes). IsTried (λ leaf. cert_record (sent o n leaf t)) (under n o.devices) (under n new.devices)) r (released s) c.in-Ok.unsigned (unsigned s.text) (ap released c.self.view_is) c.in-Ok.ensures) c.resign.ensures.tried
+    (seen (λ (o : Released) (t : Bytes). IsTried (λ leaf. cert_record (sent o n leaf t)) (under n o.devices) (under n new.devices)) r (released s) c.in-Ok.unsigned (unsigned s.text) (ap released (c.self-2.view_is ∙ c.unsigned.ensures.same)) c.in-Ok.ensures.text) c.resign.ensures.tried
 
 pub returns-clause-no_leaf : goal.returns-clause-no_leaf
 returns-clause-no_leaf g c = (
@@ -118,20 +118,20 @@ pub returns-clause-rose : goal.returns-clause-rose
 returns-clause-rose g c fault =
     let n = c.args.key in
     let new = c.resign.new.self in
-    subst (λ (o : Released). OneHasRisen (under n o.devices) (under n new.devices)) (ap released c.self.view_is) (at_device _ c.resign.result c.resign.ensures.device fault)
+    subst (λ (o : Released). OneHasRisen (under n o.devices) (under n new.devices)) (ap released (c.self-2.view_is ∙ c.unsigned.ensures.same)) (at_device _ c.resign.result c.resign.ensures.device fault)
 
 pub returns-clause-others : goal.returns-clause-others
 returns-clause-others g c =
     let n = c.args.key in
     let new = c.resign.new.self in
-    subst (λ (o : Released). OthersStay n o.devices new.devices) (ap released c.self.view_is) c.resign.ensures.others
+    subst (λ (o : Released). OthersStay n o.devices new.devices) (ap released (c.self-2.view_is ∙ c.unsigned.ensures.same)) c.resign.ensures.others
 
 pub returns-clause-fails : goal.returns-clause-fails
 returns-clause-fails g c fault =
     let s = c.args.self.now in
-    let r = c.self.inside.releases in
+    let r = c.self-2.inside.releases in
     let new = c.resign.new.self in
-    rw c.put_in.ensures (again_failed r new s c.self.inside.pinned c.self.inside.blocks (checked_of c.self.inside.progress) (accepted_of c.self.inside.progress) c.self.inside.view c.self.view_is (err_at c.resign.result error.Device c.resign.ensures.err fault))
+    rw c.put_in.ensures (again_failed r new s c.self-2.inside.pinned c.self-2.inside.blocks (checked_of c.self-2.inside.progress) (accepted_of c.self-2.inside.progress) c.self-2.inside.view (c.self-2.view_is ∙ c.unsigned.ensures.same) (err_at c.resign.result error.Device c.resign.ensures.err fault))
 
 pub returns-clause-only : goal.returns-clause-only
 returns-clause-only g c = only_device_again _ c.resign.result c.resign.ensures.device

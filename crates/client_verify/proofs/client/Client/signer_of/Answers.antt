@@ -1,5 +1,4 @@
 use Rattle.std.proofs.Common.{◌≡◌, ◌∙◌, Some, ap, sym}
-use Rattle.client_releases.specs.Told.{HasKey, Released}
 use Rattle.client_verify.specs.Progress.{accepted_of}
 use Rattle.client_verify.specs.State.{State}
 use Rattle.client_verify.proofs.Releasing.{signer_found, signer_lacks}
