@@ -1,3 +1,4 @@
 pub mod Free
 pub mod Pieces
 mod PathText
+mod FileNames

@@ -37,7 +37,7 @@ err_as (Err _) a b x y h is = begins_as a b x y h is
 three : (a b c : Bytes) → a ++ (b ++ c) ≡ (a ++ b) ++ c
 three a b c = sym (append_assoc a b c)
 
-four : (a b c d : Bytes) → a ++ (b ++ (c ++ d)) ≡ ((a ++ b) ++ c) ++ d
+pub four : (a b c d : Bytes) → a ++ (b ++ (c ++ d)) ≡ ((a ++ b) ++ c) ++ d
 four a b c d = three a b (c ++ d) ∙ three (a ++ b) c d
 
 pub five : (a b c d e : Bytes) → a ++ (b ++ (c ++ (d ++ e))) ≡ (((a ++ b) ++ c) ++ d) ++ e

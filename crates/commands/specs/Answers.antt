@@ -3,11 +3,16 @@ use Rattle.std.specs.Prelude.{ℕ, List, ◌++◌, codes, decimal}
 use Rattle.std.specs.List.{flat_map}
 use Rattle.layout.specs.Types.{Bytes}
 use Rattle.directory.specs.Directory.{Entry}
+use Rattle.directory.specs.declared.target.Target.{Target}
 use Rattle.reply_rules.specs.Number.{number_of}
 use Rattle.reply_rules.specs.declared.rule.Rule.{Rule}
 use Rattle.reply_rules.specs.declared.rule.Rule.TheVariants as rule
 use Rattle.wire.specs.Frame.{number_of_status}
 use Rattle.wire.specs.declared.kinds.Status.{Status}
+use Rattle.commands.specs.Quoting.{shown_name}
+use Rattle.commands.specs.Rows.{Row}
+use Rattle.commands.specs.declared.row.Kind.{Kind}
+use Rattle.commands.specs.declared.row.Kind.TheVariants as kind
 use Rattle.commands.specs.declared.answer.Answer.{Answer as Held}
 use Rattle.commands.specs.declared.answer.Answer.TheVariants as held
 use Rattle.commands.specs.declared.answer.Refusal.{Refusal}
@@ -18,6 +23,7 @@ pub data Answer : Type 0 where
   Done : Answer
   Shown : Bytes → Answer
   Listing : List Entry → Answer
+  Details : List Row → Answer
   Lost : List ℕ → Answer
   Broken : Rule → Answer
   Declined : Status → Answer
@@ -28,6 +34,7 @@ abbrev pub answer_of : {A : Type 0} → Held A → Answer
 answer_of held.Done = Done
 answer_of (held.Bytes bytes) = Shown bytes.items
 answer_of (held.Listing directory) = Listing directory
+answer_of (held.Details rows) = Details rows.items
 answer_of (held.Lost numbers) = Lost numbers.items
 answer_of (held.Broken broken) = Broken broken
 answer_of (held.Declined status) = Declined status
@@ -70,6 +77,29 @@ words_of refusal.Memory = codes "memory"
 abbrev pub entry_line : Entry → Bytes
 entry_line e = e.name ++ codes " " ++ decimal e.target.principal ++ codes ":" ++ decimal e.target.i_number ++ codes "\n"
 
+-- A row: `KIND SIZE p:i NAME`. What is no file has no size, which is printed as 0.
+abbrev pub kind_letter : Kind → Bytes
+kind_letter kind.Nothing = codes "-"
+kind_letter (kind.File size) = codes "f"
+kind_letter kind.Directory = codes "d"
+
+abbrev pub size_in : Kind → ℕ
+size_in kind.Nothing = 0
+size_in (kind.File size) = size
+size_in kind.Directory = 0
+
+abbrev pub kind_text : Kind → Bytes
+kind_text kind = kind_letter kind ++ codes " " ++ decimal (size_in kind) ++ codes " "
+
+abbrev pub target_text : Target → Bytes
+target_text t = decimal t.principal ++ codes ":" ++ decimal t.i_number ++ codes " "
+
+abbrev pub row_text : Kind → Target → Bytes → Bytes
+row_text kind t name = kind_text kind ++ target_text t ++ shown_name name ++ codes "\n"
+
+abbrev pub row_line : Row → Bytes
+row_line r = row_text r.kind r.entry.target r.entry.name
+
 -- a number, after a blank
 abbrev pub number_text : ℕ → Bytes
 number_text n = codes " " ++ decimal n
@@ -91,6 +121,7 @@ abbrev pub printed : Answer → Bytes
 printed Done = codes "done\n"
 printed (Shown bytes) = bytes
 printed (Listing entries) = flat_map entry_line entries
+printed (Details rows) = flat_map row_line rows
 printed (Lost numbers) = lost_line numbers
 printed (Broken broken) = broken_line broken
 printed (Declined status) = declined_line status
@@ -102,6 +133,7 @@ abbrev pub status_of : Answer → ℕ
 status_of Done = 0
 status_of (Shown bytes) = 0
 status_of (Listing entries) = 0
+status_of (Details rows) = 0
 status_of (Lost numbers) = 1
 status_of (Broken broken) = 2
 status_of (Declined status) = 3

@@ -17,6 +17,8 @@ IsNamedCourse (course.MakeNamed directory name i) = is_name name.now ≡ true
 IsNamedCourse (course.Unlink directory name) = is_name name.now ≡ true
 IsNamedCourse (course.UnlinkAndRemove directory name t) = is_name name.now ≡ true
 IsNamedCourse (course.Link directory name t) = is_name name.now ≡ true
+IsNamedCourse (course.LinkAndUnlink to to_name t directory name) =
+    (is_name to_name.now ≡ true) × (is_name name.now ≡ true)
 IsNamedCourse other = Unit {0}
 
 abbrev pub PutsNothing : Course → Type 0

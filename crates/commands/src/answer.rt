@@ -3,6 +3,7 @@
 ghost use Rattle.std.specs.Prelude.{◌≡◌};
 ghost use Rattle.commands.specs.Answers.{words_of};
 
+use crate::row::Row;
 use directory::Directory;
 use reply_rules::Rule;
 use std::alloc::Allocator;
@@ -78,6 +79,8 @@ pub enum Answer<A: Allocator> {
     Bytes(Vec<u8, A>),
     /// The entries of a directory.
     Listing(Directory<A>),
+    /// The entries of a directory, with what stands at each.
+    Details(Vec<Row<A>, A>),
     /// The operation took place, and the changes of these numbers, from 1 and ascending, had no effect in it.
     Lost(Vec<u8, A>),
     /// What the server said broke this rule.

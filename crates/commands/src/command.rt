@@ -1,8 +1,9 @@
 //! Commands.
 
 ghost use Rattle.std.specs.Prelude.{◌≡◌};
-ghost use Rattle.commands.specs.Asked.{table_change_of};
+ghost use Rattle.commands.specs.Asked.{only_reads, table_change_of};
 
+use crate::files::NewFile;
 use layout::{Group, User};
 use lms_sign::PublicKey;
 use update_cert::TableChange;
@@ -13,6 +14,8 @@ use update_cert::TableChange;
 pub enum Command<'a> {
     /// To see the entries of the directory to which the path leads.
     Ls(&'a str),
+    /// To see the entries of the directory to which the path leads, with what stands at each.
+    Details(&'a str),
     /// To see the bytes of the file to which the path leads.
     Cat(&'a str),
     /// To write a file: in the place of the one to which the path leads, or a new one.
@@ -21,6 +24,13 @@ pub enum Command<'a> {
         path: &'a str,
         /// Its bytes.
         content: &'a [u8],
+    },
+    /// To write several files of one directory in one operation, each as `Put` does.
+    PutAll {
+        /// The directory.
+        directory: &'a str,
+        /// The files, of which no two have one name: at most `MOST_FILES`.
+        files: &'a [NewFile<'a>],
     },
     /// To make an empty directory.
     Mkdir(&'a str),
@@ -32,6 +42,20 @@ pub enum Command<'a> {
         path: &'a str,
         /// What it is to stand for: `@p:i`.
         target: &'a str,
+    },
+    /// To give what a name stands for one more name.
+    AddName {
+        /// The name.
+        path: &'a str,
+        /// The new name.
+        to: &'a str,
+    },
+    /// To take a name away and nothing else, where another name stands for the same.
+    DropName {
+        /// The name.
+        path: &'a str,
+        /// The other name, which stays.
+        to: &'a str,
     },
     /// To list a user.
     AddUser {
@@ -66,6 +90,13 @@ pub enum Command<'a> {
 }
 
 impl<'a> Command<'a> {
+    /// Whether it writes nothing, whatever is there.
+    pub fn only_reads(&self) -> bool
+        ensures { result ≡ only_reads self.now }
+    {
+        matches!(self, Command::Ls(_) | Command::Details(_) | Command::Cat(_))
+    }
+
     /// The change of the table of principals that it asks for, if it asks for one alone.
     pub fn table_change(&self) -> Option<TableChange>
         ensures { result ≡ table_change_of self.now }

@@ -4,13 +4,18 @@
 
 mod answer;
 mod command;
+mod files;
 mod path;
 mod place;
 mod printing;
+mod quoting;
 mod range;
+mod row;
 
 pub use answer::{Answer, Refusal};
 pub use command::Command;
+pub use files::{MOST_FILES, NewFile, have_names};
 pub use path::{Names, Path, path_of, place_of};
 pub use place::{Course, Place, Stands};
 pub use range::range_of;
+pub use row::{Kind, Row};

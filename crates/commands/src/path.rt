@@ -156,7 +156,7 @@ fn has_some(left: Option<&str>) -> bool
     left.is_some()
 }
 
-fn is_name(part: &str) -> bool
+pub(crate) fn is_name(part: &str) -> bool
     ensures { result ≡ is_name part.now }
 {
     name_text(part.as_bytes()).is_some()

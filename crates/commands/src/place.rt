@@ -6,6 +6,7 @@ ghost use Rattle.update_cert.specs.World.{Content, File, Directory};
 ghost use Rattle.directory.specs.Name.{is_name};
 ghost use Rattle.commands.specs.Names.{IsNamed, IsNamedCourse, PutsNothing};
 ghost use Rattle.commands.specs.Asked.{place_held, outcome_of, puts, makes, removes, links, unlinks, makes_named};
+ghost use Rattle.commands.specs.Asked.{adds_name, drops_name, is_directory, is_elsewhere, is_name_of, is_same};
 
 use crate::answer::Refusal;
 use directory::Target;
@@ -94,6 +95,19 @@ pub enum Course<'a> {
         /// What the name is to stand for.
         target: Target,
     },
+    /// A directory gets a name for this, and another name is taken from its directory.
+    LinkAndUnlink {
+        /// The directory that gets a name.
+        to: Target,
+        /// That name.
+        to_name: &'a str,
+        /// What that name is to stand for.
+        target: Target,
+        /// The directory from which a name is taken.
+        directory: Target,
+        /// The name that is taken.
+        name: &'a str,
+    },
 }
 
 /// What is made at a name that a directory lacks, with the free i-number.
@@ -127,6 +141,27 @@ fn unlink<'a>(directory: Target, name: &'a str, target: Target) -> Course<'a>
     } else {
         Course::Unlink { directory, name }
     }
+}
+
+/// Whether a directory stands there.
+fn is_directory(stands: Stands) -> bool
+    ensures { result ≡ is_directory stands }
+{
+    matches!(stands, Stands::EmptyDirectory | Stands::UsedDirectory)
+}
+
+/// Whether these are one i-number of one principal.
+fn is_same(target: Target, other: Target) -> bool
+    ensures { result ≡ is_same target other }
+{
+    target.principal == other.principal && target.i_number == other.i_number
+}
+
+/// Whether a name of a directory is that one.
+fn is_name_of(directory: Target, name: &str, other: Target, other_name: &str) -> bool
+    ensures { result ≡ is_name_of directory name.now other other_name.now }
+{
+    is_same(directory, other) && name == other_name
 }
 
 impl<'a> Place<'a> {
@@ -203,6 +238,81 @@ impl<'a> Place<'a> {
                 target,
             },
             Place::At(..) | Place::Old { .. } => Course::Refuse(Refusal::There),
+        }
+    }
+
+    /// Whether it is a name of another directory.
+    fn is_elsewhere(&self, directory: Target) -> bool
+        ensures { result ≡ is_elsewhere directory (place_held self.now) }
+    {
+        match self {
+            Place::At(..) => false,
+            Place::New {
+                directory: other,
+                ..
+            }
+            | Place::Old {
+                directory: other,
+                ..
+            } => !is_same(directory, *other),
+        }
+    }
+
+    /// What it comes to that what the name here stands for gets another place as its name too: a directory only in its
+    /// own directory.
+    pub fn add_name(&self, to: &Place<'a>) -> Course<'a>
+        ensures adds { (new : Content) → outcome_of new result ≡ adds_name (place_held self.now) (place_held to.now) }
+        ensures named { IsNamed to.now → IsNamedCourse result }
+        ensures puts_nothing { PutsNothing result }
+    {
+        match self {
+            Place::Old {
+                directory,
+                target,
+                stands,
+                ..
+            } if *stands != Stands::Nothing
+                && !(is_directory(*stands) && to.is_elsewhere(*directory)) => to.link(*target),
+            Place::At(..) | Place::New { .. } | Place::Old { .. } => {
+                Course::Refuse(Refusal::NoPath)
+            }
+        }
+    }
+
+    /// What it comes to that the name here is taken away, where another place is a name for what it stands for: that
+    /// one is given again, for the case that somebody takes it away meanwhile.
+    pub fn drop_name(&self, to: &Place<'a>) -> Course<'a>
+        ensures drops { (new : Content)
+            → outcome_of new result ≡ drops_name (place_held self.now) (place_held to.now) }
+        ensures named { IsNamed self.now → IsNamed to.now → IsNamedCourse result }
+        ensures puts_nothing { PutsNothing result }
+    {
+        let Place::Old {
+            directory,
+            name,
+            target,
+            ..
+        } = self
+        else {
+            return Course::Refuse(Refusal::NoPath);
+        };
+        match to {
+            Place::New { .. } => Course::Refuse(Refusal::NoPath),
+            Place::Old {
+                directory: other,
+                name: other_name,
+                target: same,
+                ..
+            } if is_same(*target, *same) && !is_name_of(*directory, name, *other, other_name) => {
+                Course::LinkAndUnlink {
+                    to: *other,
+                    to_name: other_name,
+                    target: *target,
+                    directory: *directory,
+                    name,
+                }
+            }
+            Place::Old { .. } | Place::At(..) => Course::Refuse(Refusal::There),
         }
     }
 }

@@ -6,10 +6,13 @@ ghost use Rattle.std.specs.Io.KnownBytes.{Appends};
 ghost use Rattle.connection.specs.Written.{AppendsBeginning};
 ghost use Rattle.commands.specs.Answers.{answer_of, printed, status_of, name_of_rule};
 ghost use Rattle.commands.specs.Answers.{lost_line, broken_line, declined_line, refused_line};
+ghost use Rattle.commands.specs.Answers.{kind_letter, kind_text, row_text, size_in, target_text};
 
 use crate::answer::{Answer, Refusal};
+use crate::quoting::write_name;
+use crate::row::{Kind, Row};
 use connection::{WriteFault, write_whole};
-use directory::Entry;
+use directory::{Entry, Target};
 use itoa::Buffer;
 use reply_rules::Rule;
 use std::alloc::Allocator;
@@ -87,6 +90,92 @@ impl<A: Allocator> Piece for Entry<A> {
                 b"\n",
             ],
         )
+    }
+}
+
+/// The letter of a kind.
+fn letter_of(kind: Kind) -> &'static str
+    ensures { result.now ≡ kind_letter kind }
+{
+    match kind {
+        Kind::Nothing => "-",
+        Kind::File(_) => "f",
+        Kind::Directory => "d",
+    }
+}
+
+/// How many bytes a file has.
+fn size_in(kind: Kind) -> u32
+    ensures { result ≡ size_in kind }
+{
+    match kind {
+        Kind::File(size) => size,
+        Kind::Nothing | Kind::Directory => 0,
+    }
+}
+
+/// Writes of what kind and size it is, and a blank.
+fn write_kind<W: Write>(writer: &mut W, kind: Kind) -> Result<(), WriteFault>
+    ensures ok { OnOk result (Appends (W.contents writer.old) (W.contents writer.new) (kind_text kind)) }
+    ensures err { OnErr result (AppendsBeginning (W.contents writer.old) (W.contents writer.new) (kind_text kind)) }
+{
+    let mut size = Buffer::new();
+    print_all(
+        writer,
+        &[
+            letter_of(kind).as_bytes(),
+            b" ",
+            size.format(size_in(kind)).as_bytes(),
+            b" ",
+        ],
+    )
+}
+
+/// Writes a target, and a blank.
+fn write_target<W: Write>(writer: &mut W, target: Target) -> Result<(), WriteFault>
+    ensures ok { OnOk result (Appends (W.contents writer.old) (W.contents writer.new) (target_text target)) }
+    ensures err { OnErr result
+        (AppendsBeginning (W.contents writer.old) (W.contents writer.new) (target_text target)) }
+{
+    let mut principal = Buffer::new();
+    let mut i_number = Buffer::new();
+    print_all(
+        writer,
+        &[
+            principal.format(target.principal.get()).as_bytes(),
+            b":",
+            i_number.format(target.i_number.get()).as_bytes(),
+            b" ",
+        ],
+    )
+}
+
+/// Writes a row.
+fn write_row<W: Write>(
+    writer: &mut W,
+    kind: Kind,
+    target: Target,
+    name: &[u8],
+) -> Result<(), WriteFault>
+    ensures ok { OnOk result (Appends (W.contents writer.old) (W.contents writer.new) (row_text kind target name.now)) }
+    ensures err { OnErr result
+        (AppendsBeginning (W.contents writer.old) (W.contents writer.new) (row_text kind target name.now)) }
+{
+    write_kind(writer, kind)?;
+    write_target(writer, target)?;
+    write_name(writer, name)?;
+    write_whole(writer, b"\n")
+}
+
+/// An entry with what stands there is printed as a line.
+impl<A: Allocator> Piece for Row<A> {
+    ghost use Rattle.commands.specs.Answers.{row_line};
+
+    ghost text = { row_line };
+
+    fn print<W: Write>(&self, writer: &mut W) -> Result<(), WriteFault> {
+        let entry = self.entry();
+        write_row(writer, self.kind(), entry.target(), entry.name().as_bytes())
     }
 }
 
@@ -181,6 +270,7 @@ impl<A: Allocator> Answer<A> {
             Answer::Done => write_whole(writer, b"done\n"),
             Answer::Bytes(bytes) => write_whole(writer, bytes),
             Answer::Listing(directory) => print_all(writer, directory.entries()),
+            Answer::Details(rows) => print_all(writer, rows),
             Answer::Lost(numbers) => write_lost(writer, numbers),
             Answer::Broken(rule) => write_broken(writer, *rule),
             Answer::Declined(status) => write_declined(writer, *status),
@@ -194,7 +284,7 @@ impl<A: Allocator> Answer<A> {
         ensures { result ≡ status_of (answer_of self.now) }
     {
         match self {
-            Answer::Done | Answer::Bytes(_) | Answer::Listing(_) => 0,
+            Answer::Done | Answer::Bytes(_) | Answer::Listing(_) | Answer::Details(_) => 0,
             Answer::Lost(_) => 1,
             Answer::Broken(_) => 2,
             Answer::Declined(_) => 3,
