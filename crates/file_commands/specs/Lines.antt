@@ -27,13 +27,19 @@ use Rattle.file_commands.specs.declared.reading.Unread.TheVariants as unread
 pub data Order : Type 0 where
   ShowKey : Order
   ShowStatus : Order
+  ShowUsers : Order
   Ls : Text → Order
+  Details : Text → Order
   Cat : Text → Order
   Put : Text → Text → Order
   Get : Text → Text → Order
+  -- the same of the files of a folder, and of those below it
+  PutTree : Text → Text → Order
+  GetTree : Text → Text → Order
   Mkdir : Text → Order
   Rm : Text → Order
   Link : Text → Text → Order
+  Move : Text → Text → Order
   AddUser : User → Key → Order
   SetKey : User → Key → Order
   AddMember : Group → User → Order
@@ -45,7 +51,8 @@ pub data Order : Type 0 where
   -- the commands that come on standard input, up to the first that fails where it is so
   Batch : Bool → Order
 
--- What a line says. There is no order where a file's content stands in its name's place, which no line has.
+-- What a line says. There is no order where a file's content stands in its name's place, nor for half a move, which no
+-- line has.
 pub record Said : Type 0 where
   pub dir : Text
   pub server : Text
@@ -65,17 +72,25 @@ pub data Asked : Type 0 where
 abbrev pub order_of : Wanted → Option Order
 order_of wanted.Key = Some ShowKey
 order_of wanted.Status = Some ShowStatus
+order_of wanted.Users = Some ShowUsers
 order_of (wanted.Put path file) = Some (Put path.now file.now)
 order_of (wanted.Get path file) = Some (Get path.now file.now)
+order_of (wanted.PutTree path dir) = Some (PutTree path.now dir.now)
+order_of (wanted.GetTree path dir) = Some (GetTree path.now dir.now)
+order_of (wanted.Move path to) = Some (Move path.now to.now)
 order_of (wanted.Admin file) = Some (Admin file.now)
 order_of (wanted.Renew early) = Some (Renew early)
 order_of (wanted.Batch stops) = Some (Batch stops)
 order_of (wanted.Run (command.Ls path)) = Some (Ls path.now)
+order_of (wanted.Run (command.Details path)) = Some (Details path.now)
 order_of (wanted.Run (command.Cat path)) = Some (Cat path.now)
 order_of (wanted.Run (command.Put path content)) = None
+order_of (wanted.Run (command.PutAll directory files)) = None
 order_of (wanted.Run (command.Mkdir path)) = Some (Mkdir path.now)
 order_of (wanted.Run (command.Rm path)) = Some (Rm path.now)
 order_of (wanted.Run (command.Link path target)) = Some (Link path.now target.now)
+order_of (wanted.Run (command.AddName path to)) = None
+order_of (wanted.Run (command.DropName path to)) = None
 order_of (wanted.Run (command.AddUser user key)) = Some (AddUser user key)
 order_of (wanted.Run (command.SetKey user key)) = Some (SetKey user key)
 order_of (wanted.Run (command.AddMember group user)) = Some (AddMember group user)
@@ -152,6 +167,14 @@ super_key_for user given =
     if user == 0 then (if is_some given then Err unread.SuperKeyGiven else Ok None)
     else (if is_some given then Ok given else Err unread.SuperKeyLacking)
 
+abbrev pub is_true : Result Text Unread → Bool
+is_true (Ok text) = bytes_eq text (codes "true")
+is_true (Err e) = false
+
+-- whether an option without a value is given
+abbrev pub is_set : Text → List Row → Bool
+is_set id rows = is_true (text_in id rows)
+
 -- ---- commands
 
 abbrev pub path_in : (Text → Order) → List Row → Result (Option Order) Unread
@@ -159,12 +182,23 @@ path_in order rows = do
   path ← text_in (codes "PATH") rows
   Ok (Some (order path))
 
--- a path, and a file's name
-abbrev pub file_in : (Text → Text → Order) → List Row → Result (Option Order) Unread
-file_in order rows = do
+-- a path, and the name of a file; or what is said of a folder
+abbrev pub files_in : (Text → Text → Order) → (Text → Text → Order) → List Row → Result (Option Order) Unread
+files_in order tree rows = do
   path ← text_in (codes "PATH") rows
   file ← text_in (codes "FILE") rows
-  Ok (Some (order path file))
+  if is_set (codes "recursive") rows then Ok (Some (tree path file)) else Ok (Some (order path file))
+
+abbrev pub list_in : List Row → Result (Option Order) Unread
+list_in rows = do
+  path ← text_in (codes "PATH") rows
+  if is_set (codes "long") rows then Ok (Some (Details path)) else Ok (Some (Ls path))
+
+abbrev pub move_in : List Row → Result (Option Order) Unread
+move_in rows = do
+  path ← text_in (codes "PATH") rows
+  to ← text_in (codes "TO") rows
+  Ok (Some (Move path to))
 
 abbrev pub link_in : List Row → Result (Option Order) Unread
 link_in rows = do
@@ -201,24 +235,18 @@ change_in order rows = do
   member ← member_in rows
   Ok (Some (order member.0 member.1))
 
-abbrev pub is_true : Result Text Unread → Bool
-is_true (Ok text) = bytes_eq text (codes "true")
-is_true (Err e) = false
-
--- whether an option without a value is given
-abbrev pub is_set : Text → List Row → Bool
-is_set id rows = is_true (text_in id rows)
-
 abbrev pub order_in : Text → List Row → Result (Option Order) Unread
 order_in name rows = if bytes_eq name (codes "key") then Ok (Some ShowKey)
     else (if bytes_eq name (codes "status") then Ok (Some ShowStatus)
-    else (if bytes_eq name (codes "ls") then path_in Ls rows
+    else (if bytes_eq name (codes "users") then Ok (Some ShowUsers)
+    else (if bytes_eq name (codes "ls") then list_in rows
     else (if bytes_eq name (codes "cat") then path_in Cat rows
-    else (if bytes_eq name (codes "put") then file_in Put rows
-    else (if bytes_eq name (codes "get") then file_in Get rows
+    else (if bytes_eq name (codes "put") then files_in Put (λ dir path. PutTree path dir) rows
+    else (if bytes_eq name (codes "get") then files_in Get GetTree rows
     else (if bytes_eq name (codes "mkdir") then path_in Mkdir rows
     else (if bytes_eq name (codes "rm") then path_in Rm rows
     else (if bytes_eq name (codes "link") then link_in rows
+    else (if bytes_eq name (codes "mv") then move_in rows
     else (if bytes_eq name (codes "adduser") then key_change_in AddUser rows
     else (if bytes_eq name (codes "setkey") then key_change_in SetKey rows
     else (if bytes_eq name (codes "addmember") then change_in AddMember rows
@@ -226,7 +254,7 @@ order_in name rows = if bytes_eq name (codes "key") then Ok (Some ShowKey)
     else (if bytes_eq name (codes "admin") then admin_in rows
     else (if bytes_eq name (codes "renew") then Ok (Some (Renew (is_set (codes "early") rows)))
     else (if bytes_eq name (codes "batch") then Ok (Some (Batch (is_set (codes "stop") rows)))
-    else Err unread.Words)))))))))))))))
+    else Err unread.Words)))))))))))))))))
 
 abbrev pub order_met : Option (Text × List Row) → Result (Option Order) Unread
 order_met None = Err unread.Words

@@ -24,6 +24,10 @@ option id = valued (record (optional id) { long = Some id })
 abbrev pub flag : Text → Rule
 flag id = record (new_rule id) { action = Some SetTrue; long = Some id }
 
+-- the same, with a short name too
+abbrev pub short_flag : ℕ → Text → Rule
+short_flag short id = record (flag id) { short = Some short }
+
 -- its value is a number from `low` to `high`
 abbrev pub numbered : ℕ → ℕ → Rule → Rule
 numbered low high rule = record rule { parser = Some (parser.Signed (pos low) (pos high)) }
@@ -42,15 +46,23 @@ key_app = new_app (codes "key")
 abbrev pub status_app : App
 status_app = new_app (codes "status")
 
+abbrev pub users_app : App
+users_app = new_app (codes "users")
+
 -- a command that takes a path alone
 abbrev pub path_app : Text → App
 path_app name = with_rule (new_app name) (placed (codes "PATH"))
 
-abbrev pub put_app : App
-put_app = with_rule (path_app (codes "put")) (placed (codes "FILE"))
+-- the entries of a directory, in `-l` with what stands at each
+abbrev pub ls_app : App
+ls_app = with_rule (path_app (codes "ls")) (short_flag 108 (codes "long"))
 
-abbrev pub get_app : App
-get_app = with_rule (path_app (codes "get")) (placed (codes "FILE"))
+-- a command that takes a path and a file, or in `-r` a folder
+abbrev pub file_app : Text → App
+file_app name = with_rule (with_rule (path_app name) (placed (codes "FILE"))) (short_flag 114 (codes "recursive"))
+
+abbrev pub mv_app : App
+mv_app = with_rule (path_app (codes "mv")) (placed (codes "TO"))
 
 abbrev pub link_app : App
 link_app = with_rule (path_app (codes "link")) (placed (codes "TARGET"))
@@ -101,12 +113,23 @@ infixl 10 ◌with◌
 abbrev ◌with◌ : App → App → App
 app with sub = with_subcommand app sub.top
 
+-- the commands that show something
+abbrev pub with_looks : App → App
+with_looks app = app with key_app with status_app with users_app with ls_app with path_app (codes "cat")
+
+-- those for files and names
+abbrev pub with_files : App → App
+with_files app = app with file_app (codes "put") with file_app (codes "get") with path_app (codes "mkdir")
+    with path_app (codes "rm") with mv_app with link_app
+
+-- those that change the table of principals
+abbrev pub with_changes : App → App
+with_changes app = app with user_key_app (codes "adduser") with user_key_app (codes "setkey")
+    with member_app (codes "addmember") with member_app (codes "dropmember") with admin_app
+
 -- the commands of a user
 abbrev pub with_commands : App → App
-with_commands app = app with key_app with status_app with path_app (codes "ls") with path_app (codes "cat")
-    with put_app with get_app with path_app (codes "mkdir") with path_app (codes "rm") with link_app
-    with user_key_app (codes "adduser") with user_key_app (codes "setkey") with member_app (codes "addmember")
-    with member_app (codes "dropmember") with admin_app
+with_commands app = with_changes (with_files (with_looks app))
 
 abbrev pub sundr_app : App
 sundr_app = with_commands (versioned (requires_command options_app) with init_app) with renew_app with batch_app

@@ -29,6 +29,8 @@ pub enum LineError {
 pub enum Wanted<'a> {
     /// To print the own public keys.
     Key,
+    /// To print the users that the table of principals lists.
+    Users,
     /// To print whose the folder is, how far its last operation is, and how many leaves each key has left.
     Status,
     /// To carry out a command; none that needs a file's content, of which a line has the name alone.
@@ -46,6 +48,27 @@ pub enum Wanted<'a> {
         path: &'a str,
         /// The file's name.
         file: &'a str,
+    },
+    /// To put the files of a folder of the system into the directory at a path, with those below it.
+    PutTree {
+        /// The path.
+        path: &'a str,
+        /// The folder's name.
+        dir: &'a str,
+    },
+    /// To write the files of the directory at a path into a folder of the system, with those below it.
+    GetTree {
+        /// The path.
+        path: &'a str,
+        /// The folder's name.
+        dir: &'a str,
+    },
+    /// To give what a name stands for another name in its place.
+    Move {
+        /// The name.
+        path: &'a str,
+        /// The new name.
+        to: &'a str,
     },
     /// To make the changes that a file of the system has, a line each, in one operation.
     Admin(&'a str),

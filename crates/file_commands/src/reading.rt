@@ -4,7 +4,8 @@ ghost use Rattle.std.specs.Prelude.{◌≡◌, true, Ok, [], map, option_map, If
 ghost use Rattle.clap.specs.Words.{HasMatchesOf, app_of, fault_of, found_of, is_simple_and_free, rows_of};
 ghost use Rattle.clap.specs.Words.{subcommand_rows_of};
 ghost use Rattle.file_commands.specs.Lines.{reads, order_of, said, text_in, number_in, user_in, group_in, key_of};
-ghost use Rattle.file_commands.specs.Lines.{Get, Put, admin_in, file_in, link_in, member_in, order_in, user_key_in};
+ghost use Rattle.file_commands.specs.Lines.{Get, GetTree, Put, PutTree, admin_in, files_in, link_in, list_in};
+ghost use Rattle.file_commands.specs.Lines.{member_in, move_in, order_in, user_key_in};
 ghost use Rattle.file_commands.specs.Lines.{command_of, is_set, line_in, order_met, IsErrorOf, IsFaultOf, IsWhy};
 ghost use Rattle.file_commands.specs.Lines.{asked, asked_new, init_in, request_in, request_of, super_key_for, work_in};
 ghost use Rattle.file_commands.specs.Words.{line_app, sundr_app};
@@ -83,22 +84,54 @@ fn key(text: &str) -> Result<PublicKey, Unread>
     }
 }
 
-/// A path, and a file's name whose content is put there.
+/// A path, and the name of a file whose content is put there; or the name of a folder, and the path for it.
 fn put<'a>(matches: &ArgMatches<'a>) -> Result<Wanted<'a>, Unread>
-    ensures { reads order_of result ≡ file_in Put (rows_of (found_of matches.now)) }
+    ensures { reads order_of result ≡ files_in Put (λ dir path. PutTree path dir) (rows_of (found_of matches.now)) }
 {
     let path = text(matches, "PATH")?;
     let file = text(matches, "FILE")?;
-    Ok(Wanted::Put { path, file })
+    if is_set(matches, "recursive") {
+        Ok(Wanted::PutTree {
+            path: file,
+            dir: path,
+        })
+    } else {
+        Ok(Wanted::Put { path, file })
+    }
 }
 
-/// A path, and a file's name into which the content there is written.
+/// A path, and the name of a file into which the content there is written, or of a folder.
 fn get<'a>(matches: &ArgMatches<'a>) -> Result<Wanted<'a>, Unread>
-    ensures { reads order_of result ≡ file_in Get (rows_of (found_of matches.now)) }
+    ensures { reads order_of result ≡ files_in Get GetTree (rows_of (found_of matches.now)) }
 {
     let path = text(matches, "PATH")?;
     let file = text(matches, "FILE")?;
-    Ok(Wanted::Get { path, file })
+    if is_set(matches, "recursive") {
+        Ok(Wanted::GetTree { path, dir: file })
+    } else {
+        Ok(Wanted::Get { path, file })
+    }
+}
+
+/// A path, with what stands at each entry or without.
+fn list<'a>(matches: &ArgMatches<'a>) -> Result<Wanted<'a>, Unread>
+    ensures { reads order_of result ≡ list_in (rows_of (found_of matches.now)) }
+{
+    let path = text(matches, "PATH")?;
+    if is_set(matches, "long") {
+        Ok(Wanted::Run(Command::Details(path)))
+    } else {
+        Ok(Wanted::Run(Command::Ls(path)))
+    }
+}
+
+/// A path, and another.
+fn rename<'a>(matches: &ArgMatches<'a>) -> Result<Wanted<'a>, Unread>
+    ensures { reads order_of result ≡ move_in (rows_of (found_of matches.now)) }
+{
+    let path = text(matches, "PATH")?;
+    let to = text(matches, "TO")?;
+    Ok(Wanted::Move { path, to })
 }
 
 /// A path, and a place.
@@ -142,12 +175,15 @@ fn wanted<'a>(name: &str, matches: &ArgMatches<'a>) -> Result<Wanted<'a>, Unread
 {
     let command = match name {
         "key" => return Ok(Wanted::Key),
+        "users" => return Ok(Wanted::Users),
         "status" => return Ok(Wanted::Status),
         "batch" => return Ok(Wanted::Batch {
             stops: is_set(matches, "stop"),
         }),
+        "ls" => return list(matches),
         "put" => return put(matches),
         "get" => return get(matches),
+        "mv" => return rename(matches),
         "link" => return link(matches),
         "admin" => return admin(matches),
         "renew" => return Ok(Wanted::Renew {
@@ -161,7 +197,6 @@ fn wanted<'a>(name: &str, matches: &ArgMatches<'a>) -> Result<Wanted<'a>, Unread
             let (user, key) = user_key(matches)?;
             Command::SetKey { user, key }
         }
-        "ls" => Command::Ls(text(matches, "PATH")?),
         "cat" => Command::Cat(text(matches, "PATH")?),
         "mkdir" => Command::Mkdir(text(matches, "PATH")?),
         "rm" => Command::Rm(text(matches, "PATH")?),
@@ -210,7 +245,8 @@ fn line<'a>(matches: &ArgMatches<'a>) -> Result<Line<'a>, Unread>
 
 /// The file of user 0's public key for a user's folder, where this one is named: user 0's own needs none.
 fn super_key<'a>(user: User, given: Option<&'a str>) -> Result<Option<&'a str>, Unread>
-    ensures { reads (option_map (λ file. file.now)) result ≡ super_key_for user (option_map (λ file. file.now) given.entry) }
+    ensures { reads (option_map (λ file. file.now)) result
+        ≡ super_key_for user (option_map (λ file. file.now) given.entry) }
 {
     match given {
         Some(_) if user.get() == 0 => Err(Unread::SuperKeyGiven),

@@ -1,13 +1,16 @@
 //! The words that the program takes.
 
-ghost use Rattle.std.specs.Prelude.{◌≡◌, false, codes, IfOk};
-ghost use Rattle.clap.specs.Words.{app_of, rule_of};
-ghost use Rattle.file_commands.specs.Words.{admin_app, batch_app, flag, folder_app, get_app, init_app, key_app, line_app};
-ghost use Rattle.file_commands.specs.Words.{link_app, member_app, of_group, of_user, option, optional, options_app, path_app, placed};
-ghost use Rattle.file_commands.specs.Words.{put_app, renew_app, requires_command, status_app, sundr_app, user_key_app, valued, versioned};
-ghost use Rattle.file_commands.specs.Words.{with_commands};
+ghost use Rattle.std.specs.Prelude.{◌≡◌, false, true, codes, IfOk};
+ghost use Rattle.clap.specs.Words.{App, app_of, rule_of, with_subcommand};
+ghost use Rattle.file_commands.specs.Words.{admin_app, batch_app, file_app, flag, folder_app, init_app, key_app};
+ghost use Rattle.file_commands.specs.Words.{line_app, link_app, ls_app, member_app, mv_app, of_group};
+ghost use Rattle.file_commands.specs.Words.{of_user, option, optional, options_app, path_app, placed, renew_app};
+ghost use Rattle.file_commands.specs.Words.{requires_command, short_flag, status_app, sundr_app, user_key_app};
+ghost use Rattle.file_commands.specs.Words.{users_app, valued, versioned, with_changes, with_commands, with_files};
+ghost use Rattle.file_commands.specs.Words.{with_looks};
 
 use clap::{Arg, ArgAction, Command, value_parser};
+use layout::beside;
 use std::alloc::{AllocError, Global};
 
 /// The version of the program.
@@ -36,7 +39,7 @@ struct Help {
 
 const LS: Help = Help {
     about: "Prints a line `NAME p:i` for each entry of a directory, in order of the names' bytes",
-    example: "Example: sundr --dir alice --server localhost:7440 --user 1 ls /docs",
+    example: "Example: sundr --dir alice --server localhost:7440 --user 1 ls -l /docs",
 };
 
 const CAT: Help = Help {
@@ -52,6 +55,11 @@ const PUT: Help = Help {
 const GET: Help = Help {
     about: "Writes the bytes of the file at PATH into FILE, once all of them were checked",
     example: "Example: sundr --dir alice --server localhost:7440 --user 1 get /docs/plan plan.txt",
+};
+
+const MV: Help = Help {
+    about: "Gives what the name PATH stands for the name TO, and takes PATH away",
+    example: "Example: sundr --dir alice --server localhost:7440 --user 1 mv /docs/plan /docs/old",
 };
 
 const MKDIR: Help = Help {
@@ -130,6 +138,14 @@ fn flag<'a>(alloc: Global, name: &'a str, help: &'a str) -> Arg<'a>
         .long(name)
         .action(ArgAction::SetTrue)
         .help(help)
+}
+
+/// An option without a value, with a short name too.
+fn short_flag<'a>(alloc: Global, short: char, name: &'a str, help: &'a str) -> Arg<'a>
+    ensures rule { rule_of result ≡ short_flag short name.entry.now }
+    ensures local { result.global ≡ false }
+{
+    flag(alloc, name, help).short(short)
 }
 
 /// The same argument, with a user's number as its value.
@@ -215,6 +231,16 @@ fn status_command<'a>(alloc: Global) -> Command<'a>
         .after_help("Example: sundr --dir alice --server localhost:7440 --user 1 status")
 }
 
+fn users_command<'a>(alloc: Global) -> Command<'a>
+    ensures { app_of result ≡ users_app }
+{
+    Command::new(alloc, "users")
+        .about(
+            "Prints the users that are listed, with their groups and the fingerprints of their keys",
+        )
+        .after_help("Example: sundr --dir alice --server localhost:7440 --user 1 users")
+}
+
 /// A command that takes a path alone.
 fn path_command<'a>(alloc: Global, name: &'a str, help: Help) -> Result<Command<'a>, AllocError>
     ensures { IfOk result (λ c. app_of c ≡ path_app name.entry.now) }
@@ -225,24 +251,60 @@ fn path_command<'a>(alloc: Global, name: &'a str, help: Help) -> Result<Command<
         .arg(path(alloc))
 }
 
-fn put_command<'a>(alloc: Global) -> Result<Command<'a>, AllocError>
-    ensures { IfOk result (λ c. app_of c ≡ put_app) }
+fn ls_command<'a>(alloc: Global) -> Result<Command<'a>, AllocError>
+    ensures { IfOk result (λ c. app_of c ≡ ls_app) }
 {
-    path_command(alloc, "put", PUT)?.arg(placed(
+    path_command(alloc, "ls", LS)?.arg(short_flag(
         alloc,
-        "FILE",
-        "A file of this system, of at most 4,194,304 bytes",
+        'l',
+        "long",
+        "Prints `KIND SIZE p:i NAME`: f and a file's size, d for a directory, or - for nothing",
     ))
 }
 
-fn get_command<'a>(alloc: Global) -> Result<Command<'a>, AllocError>
-    ensures { IfOk result (λ c. app_of c ≡ get_app) }
+/// A command that takes a path and a file, or a folder.
+fn file_command<'a>(
+    alloc: Global,
+    name: &'a str,
+    help: Help,
+    file: &'a str,
+    recursive: &'a str,
+) -> Result<Command<'a>, AllocError>
+    ensures { IfOk result (λ c. app_of c ≡ file_app name.entry.now) }
 {
-    path_command(alloc, "get", GET)?.arg(placed(
+    path_command(alloc, name, help)?
+        .arg(placed(alloc, "FILE", file))?
+        .arg(short_flag(alloc, 'r', "recursive", recursive))
+}
+
+fn put_command<'a>(alloc: Global) -> Result<Command<'a>, AllocError>
+    ensures { IfOk result (λ c. app_of c ≡ file_app (codes "put")) }
+{
+    file_command(
         alloc,
-        "FILE",
+        "put",
+        PUT,
+        "A file of this system, of at most 4,194,304 bytes",
+        "Takes a folder of this system, and then PATH: writes all that stands in the folder below PATH",
+    )
+}
+
+fn get_command<'a>(alloc: Global) -> Result<Command<'a>, AllocError>
+    ensures { IfOk result (λ c. app_of c ≡ file_app (codes "get")) }
+{
+    file_command(
+        alloc,
+        "get",
+        GET,
         "A file of this system, which is made, or whose bytes are replaced",
-    ))
+        "Takes PATH, and then a folder of this system: writes all that stands below PATH into the folder",
+    )
+}
+
+fn mv_command<'a>(alloc: Global) -> Result<Command<'a>, AllocError>
+    ensures { IfOk result (λ c. app_of c ≡ mv_app) }
+{
+    path_command(alloc, "mv", MV)?.arg(placed(alloc, "TO", "The new name, as PATH"))
 }
 
 fn link_command<'a>(alloc: Global) -> Result<Command<'a>, AllocError>
@@ -373,25 +435,59 @@ fn batch_command<'a>(alloc: Global) -> Result<Command<'a>, AllocError>
         ))
 }
 
+/// The same command, with one more subcommand, if there was memory for that.
+fn with_sub<'a>(
+    command: Command<'a>,
+    sub: Result<Command<'a>, AllocError>,
+) -> Result<Command<'a>, AllocError>
+    ensures { (app : App) → IfOk sub.entry (λ c. app_of c ≡ app) → app.top.is_plain ≡ true
+        → IfOk result (λ c. app_of c ≡ with_subcommand (app_of command.entry) app.top) }
+{
+    let (command, sub) = beside(command, sub)?;
+    command.subcommand(sub)
+}
+
+/// The same command, with the commands that show something.
+fn with_looks<'a>(alloc: Global, command: Command<'a>) -> Result<Command<'a>, AllocError>
+    ensures { IfOk result (λ c. app_of c ≡ with_looks (app_of command.entry)) }
+{
+    let key = command.subcommand(key_command(alloc))?;
+    let status = key.subcommand(status_command(alloc))?;
+    let users = status.subcommand(users_command(alloc))?;
+    let ls = with_sub(users, ls_command(alloc))?;
+    with_sub(ls, path_command(alloc, "cat", CAT))
+}
+
+/// The same command, with those for files and names.
+fn with_files<'a>(alloc: Global, command: Command<'a>) -> Result<Command<'a>, AllocError>
+    ensures { IfOk result (λ c. app_of c ≡ with_files (app_of command.entry)) }
+{
+    let put = with_sub(command, put_command(alloc))?;
+    let get = with_sub(put, get_command(alloc))?;
+    let mkdir = with_sub(get, path_command(alloc, "mkdir", MKDIR))?;
+    let rm = with_sub(mkdir, path_command(alloc, "rm", RM))?;
+    let mv = with_sub(rm, mv_command(alloc))?;
+    with_sub(mv, link_command(alloc))
+}
+
+/// The same command, with those that change the table of principals.
+fn with_changes<'a>(alloc: Global, command: Command<'a>) -> Result<Command<'a>, AllocError>
+    ensures { IfOk result (λ c. app_of c ≡ with_changes (app_of command.entry)) }
+{
+    let add = with_sub(command, user_key_command(alloc, "adduser", ADD_USER))?;
+    let set = with_sub(add, user_key_command(alloc, "setkey", SET_KEY))?;
+    let join = with_sub(set, member_command(alloc, "addmember", ADD_MEMBER))?;
+    let leave = with_sub(join, member_command(alloc, "dropmember", DROP_MEMBER))?;
+    with_sub(leave, admin_command(alloc))
+}
+
 /// The same command, with the commands of a user.
 fn with_commands<'a>(alloc: Global, command: Command<'a>) -> Result<Command<'a>, AllocError>
     ensures { IfOk result (λ c. app_of c ≡ with_commands (app_of command.entry)) }
 {
-    command
-        .subcommand(key_command(alloc))?
-        .subcommand(status_command(alloc))?
-        .subcommand(path_command(alloc, "ls", LS)?)?
-        .subcommand(path_command(alloc, "cat", CAT)?)?
-        .subcommand(put_command(alloc)?)?
-        .subcommand(get_command(alloc)?)?
-        .subcommand(path_command(alloc, "mkdir", MKDIR)?)?
-        .subcommand(path_command(alloc, "rm", RM)?)?
-        .subcommand(link_command(alloc)?)?
-        .subcommand(user_key_command(alloc, "adduser", ADD_USER)?)?
-        .subcommand(user_key_command(alloc, "setkey", SET_KEY)?)?
-        .subcommand(member_command(alloc, "addmember", ADD_MEMBER)?)?
-        .subcommand(member_command(alloc, "dropmember", DROP_MEMBER)?)?
-        .subcommand(admin_command(alloc)?)
+    let looks = with_looks(alloc, command)?;
+    let files = with_files(alloc, looks)?;
+    with_changes(alloc, files)
 }
 
 /// The words that the program takes.
