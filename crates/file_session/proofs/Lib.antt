@@ -10,6 +10,13 @@ pub mod Tables
 pub mod Last
 pub mod Walks
 pub mod Plans
+pub mod Rows
+pub mod Joined
+pub mod Puts
+pub mod TwoPlaces
 pub mod Choices
 pub mod Once
 pub mod Sessions
+pub mod Quiet
+pub mod Tells
+pub mod Renames

@@ -25,7 +25,7 @@ use Rattle.file_session.proofs.Once.{asked_once}
 use Rattle.file_session.proofs.Runs.{lacks_leaves, went_as, went_then}
 use Rattle.file_session.proofs.Synced.{all_sign_synced, at_start}
 
-tells_are : {A : Type 0} (o : Outcome) (x : _) → IsPlanOf {A = A} o (plan.Tells x) → o ≡ Tells (answer_of x)
+pub tells_are : {A : Type 0} (o : Outcome) (x : _) → IsPlanOf {A = A} o (plan.Tells x) → o ≡ Tells (answer_of x)
 tells_are (Tells told) x is = ap Tells (sym is)
 tells_are (Writes wanted) x is = absurd is
 
@@ -124,7 +124,7 @@ module _ {T : Type 0} {answers : Answering T} where
   -- a look in it was stopped, or memory was refused for the operation that is asked for
   by_look : {a b c : At T} {u : User} {command : Command} (e : Stop) → Operated answers a b [] [] (λ signed. (lost : List ℕ) × (signed ≡ lost ∷ [])) → (Looked answers b c (λ tree. Unit {0}) ⊎ CantPlan answers b c (outcome u command)) → Carried answers a c u command (Err e)
   by_look e k (inl p) = after_looks k p.seen [] (went_as p.went (sym (append-nil (looks p.seen)))) tt
-  by_look e k (inr p) = after_looks k p.seen (Unplanned ∷ []) p.went (p.wanted, p.asked)
+  by_look e k (inr p) = after_looks k p.seen (Unplanned ∷ []) p.went p.needs
 
   pub looked_not : {A : Type 0} {a b c : At T} {u : User} {command : Command} (e : Stop) → Operated answers a b [] [] (λ signed. (lost : List ℕ) × (signed ≡ lost ∷ [])) → Planned {A = A} answers b c (outcome u command) (Err e) → Carried answers a c u command (Err e)
   looked_not e k p = by_look e k p.looked

@@ -1,5 +1,5 @@
 -- Nothing is signed before each text that was stored is synced.
-use Rattle.std.proofs.Common.{◌≡◌, Bool, true, false, ℕ, List, [], ◌∷◌, Option, Result, Ok, Err, refl, sym, ap, ◌∙◌, subst, inl, inr}
+use Rattle.std.proofs.Common.{◌≡◌, Bool, false, ℕ, List, [], ◌∷◌, Option, Result, Ok, Err, refl, sym, ap, subst, inl, inr}
 use Rattle.std.specs.Option.{unwrap_or}
 use Rattle.layout.specs.Types.{Bytes}
 use Rattle.client_tree.specs.declared.questions.Question.{Question}
@@ -21,9 +21,9 @@ use Rattle.transport.specs.declared.transport.TransportError.{TransportError}
 use Rattle.file_session.specs.Replies.{payload_in, block_in, status_in, synced_in}
 use Rattle.file_session.specs.Calls.{Begins, Resigns, Hears, Takes, Signs, Commits, Looks, Gives}
 use Rattle.file_session.specs.Order.{Move, Calls, Sends, LacksLeaves, LacksPlan, LacksNumbers, Next, Ready, Unsynced, Update, Hear, Resign, Fetch, Take, Store, Sync, CommitNew, Commit, Tell, FetchAt, GiveAt, Over, Follows}
-use Rattle.file_session.specs.Order.{laying, declaring, trying, hearing, resigning, checking, taking, left_to_store, storing, syncing, committing, telling, committed, looking, giving, resuming, sync}
+use Rattle.file_session.specs.Order.{laying, declaring, trying, hearing, resigning, checking, taking, storing, syncing, committing, telling, committed, looking, giving, resuming, sync}
 use Rattle.file_session.specs.Tries.{keys_to_try}
-use Rattle.file_session.specs.Went.{Answering, At, IsMove, Moves}
+use Rattle.file_session.specs.Went.{Answering, At, Moves}
 use Rattle.file_session.specs.Synced.{AllSignSynced, SignsSynced, unsynced_after, unsynced_by}
 use Rattle.file_session.proofs.Given.{follows_in}
 

@@ -8,4 +8,6 @@ pub mod Went
 pub mod Given
 pub mod Waits
 pub mod Sessions
+pub mod Told
+pub mod Renamed
 pub mod Parts

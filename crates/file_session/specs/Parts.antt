@@ -4,7 +4,7 @@ use Rattle.std.specs.Prelude.{◌≡◌, ◌≤◌, ◌⊎◌, true, ℕ, length
 use Rattle.std.specs.Prelude.{Option, Some, None, Result, Ok, Err, IfOk}
 use Rattle.std.specs.Vec.{vec_items}
 use Rattle.std.specs.declared.vec.Vec.{Vec}
-use Rattle.layout.specs.Types.{Bytes, Digest, User}
+use Rattle.layout.specs.Types.{Bytes, Digest, INumber, User}
 use Rattle.update_cert.specs.Change.{Change, Make, Put, Remove, Unlink}
 use Rattle.update_cert.specs.World.{Content, File, Directory, Tree}
 use Rattle.update_cert.specs.declared.cert.TheConstants.{MOST_CHANGES}
@@ -15,24 +15,30 @@ use Rattle.directory.specs.Directory.{Entry}
 use Rattle.directory.specs.Name.{is_name}
 use Rattle.directory.specs.declared.target.Target.{Target}
 use Rattle.commands.specs.Answers.{Answer, Listing, Shown, answer_of}
-use Rattle.commands.specs.Asked.{At, New, Old, Outcome, Place, Tells, refuses, Writes, change_at, place_from, walk}
+use Rattle.commands.specs.Asked.{At, New, Old, Outcome, Place, Tells, refuses, Writes, change_at, link_at}
+use Rattle.commands.specs.Asked.{next_from, place_from, puts, row_of, walk}
+use Rattle.commands.specs.Files.{name_of}
+use Rattle.commands.specs.Rows.{Row}
 use Rattle.commands.specs.Names.{PutsNothing}
 use Rattle.commands.specs.declared.answer.Refusal.TheVariants as refusal
 use Rattle.commands.specs.Paths.{Path}
 use Rattle.commands.specs.declared.place.Course.{Course}
 use Rattle.commands.specs.declared.command.Command.{Command}
+use Rattle.commands.specs.declared.files.NewFile.{NewFile}
 use Rattle.file_session.specs.declared.planning.Plan.{Plan}
 use Rattle.file_session.specs.declared.planning.Plan.TheVariants as plan
+use Rattle.file_session.specs.declared.putting.Spot.{Spot}
+use Rattle.file_session.specs.declared.renaming.Sites.{Sites}
 use Rattle.file_session.specs.declared.site.Site.{Site}
 use Rattle.file_session.specs.declared.site.Site.TheVariants as site
 use Rattle.file_session.specs.declared.texts.New.{New as NewContent}
 use Rattle.file_session.specs.declared.texts.New.TheVariants as new
 use Rattle.file_session.specs.declared.stop.Stop.{Stop}
 use Rattle.file_session.specs.Declaring.{all_declared, all_texts}
-use Rattle.file_session.specs.Sessions.{IsCommand, IsUncommitted}
+use Rattle.file_session.specs.Sessions.{IsCommand, IsUncommitted, NeedsMemory}
 use Rattle.file_session.specs.Went.{Answering, At as Point, Event, Begun, Saw, Signed, Unbegun, Unplanned, looks}
 use Rattle.file_session.specs.Went.{signs, Went}
-use Rattle.file_session.specs.Went.{Agrees, Looked, Seen}
+use Rattle.file_session.specs.Went.{Looked, Seen}
 
 -- ---- the write
 
@@ -103,6 +109,11 @@ place_of_site name (site.At t there) = At t there
 place_of_site name (site.New directory) = New directory name
 place_of_site name (site.Old directory t there) = Old directory name t there
 
+-- what comes by the places of two paths, if these lead to places
+abbrev pub of_sites : (Place → Place → Outcome) → Bytes → Bytes → Option Sites → Outcome
+of_sites comes name other None = refuses refusal.NoPath
+of_sites comes name other (Some s) = comes (place_of_site name s.site) (place_of_site other s.other)
+
 -- what it is named by is a name, if it is named
 abbrev pub HasName : Bytes → Site → Type 0
 HasName name (site.At t there) = Unit {0}
@@ -132,6 +143,10 @@ makes_at t new = Writes (change_at t (Make new) ∷ [])
 abbrev pub unlinks_and_removes : Target → Bytes → Target → Outcome
 unlinks_and_removes directory name t = Writes (change_at directory (Unlink name) ∷ change_at t Remove ∷ [])
 
+abbrev pub links_and_unlinks : Target → Bytes → Target → Target → Bytes → Outcome
+links_and_unlinks to to_name t directory name =
+    Writes (link_at to to_name t ∷ change_at directory (Unlink name) ∷ [])
+
 -- what is listed and what is read, where this was found
 abbrev pub listing : Option (List Entry) → Outcome
 listing None = refuses refusal.NoPath
@@ -140,6 +155,29 @@ listing (Some entries) = Tells (Listing entries)
 abbrev pub reading : Option Bytes → Outcome
 reading None = refuses refusal.NoPath
 reading (Some bytes) = Tells (Shown bytes)
+
+-- ---- files of one directory
+
+-- what a file comes to that is put under its name at a spot, and from which i-number on the next one is looked for
+abbrev pub comes_at : NewFile → Option Spot → Outcome
+comes_at file None = refuses refusal.NoPath
+comes_at file (Some s) = puts file.content.now (place_of_site (name_of file) s.site) s.free
+
+abbrev pub next_after : INumber → Option Spot → INumber
+next_after i None = i
+next_after i (Some s) = next_from i s.free
+
+-- ---- the rows of a directory
+
+-- by looks, after which memory was refused for the rows
+pub record LacksRows {T : Type 0} (answers : Answering T) (a b : Point T) : Type 0 where
+  pub seen : List Seen
+  pub went : Went answers a b (looks seen ++ Unplanned ∷ [])
+
+-- by looks, which tell what stands at each of these entries; or one of them was stopped, or memory was refused
+abbrev pub RowsLooked : {T A : Type 0} → Answering T → Point T → Point T → List Entry → Result (Vec Row A) Stop → Type 0
+RowsLooked answers a b entries (Ok rows) = Looked answers a b (λ tree. rows.items ≡ map (row_of tree) entries)
+RowsLooked answers a b entries (Err e) = Looked answers a b (λ tree. Unit {0}) ⊎ LacksRows answers a b
 
 -- ---- what a command comes to
 
@@ -166,12 +204,16 @@ abbrev pub IsChange : Outcome → Type 0
 IsChange (Tells answer) = ⊥
 IsChange (Writes wanted) = Unit {0}
 
--- by looks, from which it follows that changes are asked for, and memory was refused for them
+-- so many at most
+abbrev pub HasFew : {A : Type 0} → ℕ → Plan A → Type 0
+HasFew n (plan.Tells answer) = Unit {0}
+HasFew n (plan.Writes operation) = length operation.changes.items ≤ n
+
+-- by looks, from which it follows that this is asked for, and memory was refused for it
 pub record CantPlan {T : Type 0} (answers : Answering T) (a b : Point T) (comes : Tree → Outcome) : Type 0 where
   pub seen : List Seen
   pub went : Went answers a b (looks seen ++ Unplanned ∷ [])
-  pub wanted : List (Change Content)
-  pub asked : (tree : Tree) → Agrees tree seen → comes tree ≡ Writes wanted
+  pub needs : NeedsMemory comes seen
 
 -- by looks, from which it follows what comes of a command; or one of them was stopped
 abbrev pub LookedFor : {T X : Type 0} → Answering T → Point T → Point T → (Tree → Outcome) → Outcome → Result X Stop

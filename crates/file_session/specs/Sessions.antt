@@ -1,6 +1,7 @@
 -- What a session promises.
-use Rattle.std.specs.Prelude.{◌≡◌, ◌⊎◌, ℕ, false, List, [], ◌∷◌, ◌++◌, Option, Some, None, Result, Ok, Err}
+use Rattle.std.specs.Prelude.{◌≡◌, ◌⊎◌, ℕ, false, List, [], ◌∷◌, ◌++◌, map, Option, Some, None, Result, Ok, Err}
 use Rattle.layout.specs.Types.{Bytes, Digest, User, Version}
+use Rattle.directory.specs.Directory.{Entry}
 use Rattle.update_cert.specs.Change.{Change}
 use Rattle.update_cert.specs.World.{Content, Tree}
 use Rattle.client_releases.specs.declared.error.ClientError.{ClientError}
@@ -8,8 +9,8 @@ use Rattle.client_releases.specs.declared.error.ClientError.TheVariants as error
 use Rattle.client_releases.specs.declared.phase.Phase.{Phase}
 use Rattle.client_releases.specs.declared.phase.Phase.TheVariants as phase
 use Rattle.client_verify.specs.State.{State}
-use Rattle.commands.specs.Answers.{Answer, Broken, Declined, Refused}
-use Rattle.commands.specs.Asked.{Tells, Writes, outcome, told_of_lost}
+use Rattle.commands.specs.Answers.{Answer, Broken, Declined, Details, Refused}
+use Rattle.commands.specs.Asked.{Outcome, Tells, Writes, outcome, row_of, told_of_lost}
 use Rattle.commands.specs.declared.answer.Refusal.{Refusal}
 use Rattle.commands.specs.declared.answer.Refusal.TheVariants as refusal
 use Rattle.commands.specs.declared.command.Command.{Command}
@@ -77,15 +78,23 @@ pub record IsAsked (u : User) (c : Command) (seen : List Seen) (changes : List (
   pub changes_are : changes ≡ all_declared wanted
   pub laid_are : laid ≡ all_texts wanted
 
+-- Memory is needed for what comes of it, as it follows from these looks: for certain changes, or for the rows of
+-- certain entries.
+abbrev pub NeedsMemory : (Tree → Outcome) → List Seen → Type 0
+NeedsMemory comes seen =
+    ((wanted : List (Change Content)) × ((tree : Tree) → Agrees tree seen → comes tree ≡ Writes wanted))
+    ⊎ ((entries : List Entry)
+    × ((tree : Tree) → Agrees tree seen → comes tree ≡ Tells (Details (map (row_of tree) entries))))
+
 -- After these looks: the answer is the one that is told in each tree that agrees with them; or the operation that is
--- asked for was begun, for which its texts were stored, or wasn't, for want of leaves or memory; or something stopped
--- the session.
+-- asked for was begun, for which its texts were stored, or wasn't, for want of leaves; or memory was refused; or
+-- something stopped the session.
 abbrev pub IsDone : User → Command → List Seen → List Event → Result Answer Stop → State → Type 0
 IsDone u c seen [] (Ok answer) new = (tree : Tree) → Agrees tree seen → outcome u c tree ≡ Tells answer
 IsDone u c seen [] (Err e) new = Unit {0}
 IsDone u c seen (Begun changes laid ∷ es) result new = IsAsked u c seen changes laid × IsWritten es result new
 IsDone u c seen (Unbegun ∷ []) (Err e) new = (wanted : List (Change Content)) × Asks u c seen wanted
-IsDone u c seen (Unplanned ∷ []) (Err e) new = (wanted : List (Change Content)) × Asks u c seen wanted
+IsDone u c seen (Unplanned ∷ []) (Err e) new = NeedsMemory (outcome u c) seen
 IsDone u c seen other result new = ⊥
 
 -- first a look, an operation without changes; then looks in its view; then the write that they ask for, if they do

@@ -7,12 +7,14 @@ ghost use Rattle.std.specs.Vec.{vec_items};
 ghost use Rattle.layout.specs.Types.{INumber as Number, Principal as Principals};
 ghost use Rattle.update_cert.specs.World.{Tree};
 ghost use Rattle.client_tree.specs.Questions.{IsLeastFree};
-ghost use Rattle.client_steps.specs.Anywhere.{seen};
+ghost use Rattle.client_steps.specs.Anywhere.{on_ok, seen};
 ghost use Rattle.commands.specs.Asked.{at_end, at_place, free_at, free_for, is_too_large, links, lists, makes};
-ghost use Rattle.commands.specs.Asked.{outcome, puts, reads, removes};
+ghost use Rattle.commands.specs.Answers.{answer_of};
+ghost use Rattle.commands.specs.Asked.{Tells, outcome, puts, reads, removes};
 ghost use Rattle.commands.specs.Paths.{path_of};
 ghost use Rattle.file_session.specs.Order.{Ready, ready_or};
-ghost use Rattle.file_session.specs.Parts.{CanBegin, IsPlanOf, IsSmall, Planned, listing, place_of_site, reading};
+ghost use Rattle.file_session.specs.Parts.{IsSmall, Planned, listing, place_of_site, reading};
+ghost use Rattle.file_session.specs.declared.planning.Plan.TheVariants.{Tells as TellsAnswer};
 ghost use Rattle.file_session.specs.Went.{IsSeenIn, Looked, point};
 
 use crate::conversation::Conversation;
@@ -30,7 +32,7 @@ use transport::Transport;
 use update_cert::TableChange;
 
 /// The free i-number that a look tells, if it tells one.
-fn free_seen<A: Allocator>(look: &Look<A>) -> Option<INumber>
+pub(crate) fn free_seen<A: Allocator>(look: &Look<A>) -> Option<INumber>
     ensures { (tree : Tree) (p : Principals) (first last : Number)
         → IsSeenIn tree (Question.Free p first last) (seen look.now) → IsLeastFree (tree p) first last result }
 {
@@ -41,24 +43,32 @@ fn free_seen<A: Allocator>(look: &Look<A>) -> Option<INumber>
 }
 
 /// The entries of a directory, if one was found.
-fn listed<A: Allocator>(found: Option<Directory<A>>) -> Plan<A>
-    ensures plan { IsPlanOf (listing found) result }
-    ensures can_begin { CanBegin result }
+fn listed<A: Allocator>(found: Option<Directory<A>>) -> Answer<A>
+    ensures { Tells (answer_of result) ≡ listing found }
 {
     match found {
-        Some(entries) => Plan::Tells(Answer::Listing(entries)),
-        None => refused(Refusal::NoPath),
+        Some(entries) => Answer::Listing(entries),
+        None => Answer::Refused(Refusal::NoPath),
     }
 }
 
 /// The bytes of a file, if one was found.
-fn shown<A: Allocator>(found: Option<Vec<u8, A>>) -> Plan<A>
-    ensures plan { IsPlanOf (reading (option_map vec_items found)) result }
-    ensures can_begin { CanBegin result }
+fn shown<A: Allocator>(found: Option<Vec<u8, A>>) -> Answer<A>
+    ensures { Tells (answer_of result) ≡ reading (option_map vec_items found) }
 {
     match found {
-        Some(bytes) => Plan::Tells(Answer::Bytes(bytes)),
-        None => refused(Refusal::NoPath),
+        Some(bytes) => Answer::Bytes(bytes),
+        None => Answer::Refused(Refusal::NoPath),
+    }
+}
+
+/// An answer at once, as a plan.
+fn at_once<A: Allocator>(answer: Result<Answer<A>, Stop>) -> Result<Plan<A>, Stop>
+    ensures { result ≡ on_ok TellsAnswer answer }
+{
+    match answer {
+        Ok(answer) => Ok(Plan::Tells(answer)),
+        Err(stop) => Err(stop),
     }
 }
 
@@ -96,30 +106,30 @@ impl<L: Device, J: Device, T: Transport<A>, A: Allocator + Copy> Conversation<L,
     }
 
     /// The entries of the directory at the end of a path.
-    fn list(&mut self, path: &str) -> Result<Plan<A>, Stop>
+    pub(crate) fn list(&mut self, path: &str) -> Result<Answer<A>, Stop>
         requires { IsSome self.old.client.view }
         ensures planned { Planned T.answers (point self.old.client self.old.transport (Ready []))
             (point self.new.client self.new.transport (ready_or result))
-            (λ tree. at_end tree lists (path_of path.now)) result }
+            (λ tree. at_end tree lists (path_of path.now)) (on_ok TellsAnswer result) }
         ensures phase { self.new.client.phase ≡ self.old.client.phase }
     {
         let Some(end) = self.end(path)? else {
-            return Ok(refused(Refusal::NoPath));
+            return Ok(Answer::Refused(Refusal::NoPath));
         };
         let found = self.directory(&end)?;
         Ok(listed(found))
     }
 
     /// The bytes of the file at the end of a path.
-    fn read(&mut self, path: &str) -> Result<Plan<A>, Stop>
+    pub(crate) fn read(&mut self, path: &str) -> Result<Answer<A>, Stop>
         requires { IsSome self.old.client.view }
         ensures planned { Planned T.answers (point self.old.client self.old.transport (Ready []))
             (point self.new.client self.new.transport (ready_or result))
-            (λ tree. at_end tree reads (path_of path.now)) result }
+            (λ tree. at_end tree reads (path_of path.now)) (on_ok TellsAnswer result) }
         ensures phase { self.new.client.phase ≡ self.old.client.phase }
     {
         let Some(end) = self.end(path)? else {
-            return Ok(refused(Refusal::NoPath));
+            return Ok(Answer::Refused(Refusal::NoPath));
         };
         let found = self.file(&end)?;
         Ok(shown(found))
@@ -195,15 +205,19 @@ impl<L: Device, J: Device, T: Transport<A>, A: Allocator + Copy> Conversation<L,
         ensures phase { self.new.client.phase ≡ self.old.client.phase }
     {
         match command {
-            Command::Ls(path) => self.list(path),
-            Command::Cat(path) => self.read(path),
+            Command::Ls(path) => at_once(self.list(path)),
+            Command::Details(path) => at_once(self.detail(path)),
+            Command::Cat(path) => at_once(self.read(path)),
             Command::Put { path, content } => self.put(user, path, content),
+            Command::PutAll { directory, files } => self.put_all(user, directory, files),
             Command::Mkdir(path) => self.make(user, path),
             Command::Rm(path) => self.remove(path),
             Command::Link { path, target } => match place_of(target) {
                 Some(target) => self.link(path, target),
                 None => Ok(refused(Refusal::NoPath)),
             },
+            Command::AddName { path, to } => self.add_name(path, to),
+            Command::DropName { path, to } => self.drop_name(path, to),
             Command::AddUser { user, key } => {
                 or_stop(plan_of_table(self.alloc, TableChange::AddUser(*user, *key)))
             }

@@ -1,6 +1,6 @@
 //! The changes of an operation, and the texts that are stored for it.
 
-ghost use Rattle.std.specs.Prelude.{◌≡◌, ◌≤◌, ◌∷◌, [], IfErr, IfOk, OnErr, Some, length, map, true};
+ghost use Rattle.std.specs.Prelude.{◌≡◌, ◌≤◌, ◌∷◌, [], ℕ, IfErr, IfOk, OnErr, Some, length, map, true};
 ghost use Rattle.directory.specs.Name.{is_name};
 ghost use Rattle.update_cert.specs.Change.{Change as AnyChange, of_table, table_action_of};
 ghost use Rattle.update_cert.specs.World.{Content, File};
@@ -10,8 +10,8 @@ ghost use Rattle.commands.specs.Asked.{Outcome, Tells, Writes, all_on_table, mak
 ghost use Rattle.update_cert.specs.declared.cert.TheConstants.{MOST_CHANGES};
 ghost use Rattle.commands.specs.Names.{IsNamedCourse};
 ghost use Rattle.file_session.specs.Declaring.{declared, texts_for};
-ghost use Rattle.file_session.specs.Parts.{CanBegin, IsChange, IsOf, IsPlanOf, IsSmall, bytes_of, content_of, makes_at};
-ghost use Rattle.file_session.specs.Parts.{puts_at, unlinks_and_removes};
+ghost use Rattle.file_session.specs.Parts.{CanBegin, HasFew, IsChange, IsOf, IsPlanOf, IsSmall, bytes_of, content_of};
+ghost use Rattle.file_session.specs.Parts.{links_and_unlinks, makes_at, puts_at, unlinks_and_removes};
 
 use crate::stop::Stop;
 use crate::texts::{New, Prepared, at, link, prepare, unlink};
@@ -172,6 +172,29 @@ fn unlink_and_remove<A: Allocator + Copy>(
     }))
 }
 
+/// A directory gets a name for a target, and another name is taken from its directory.
+fn link_and_unlink<A: Allocator + Copy>(
+    alloc: A,
+    to: Target,
+    to_name: &str,
+    target: Target,
+    directory: Target,
+    name: &str,
+) -> Result<Plan<A>, Memory>
+    requires to_name { is_name to_name.now ≡ true }
+    requires name { is_name name.now ≡ true }
+    ensures plan { IfOk result (IsPlanOf (links_and_unlinks to to_name.now target directory name.now)) }
+    ensures can_begin { IfOk result CanBegin }
+{
+    let mut changes = Vec::new(alloc);
+    changes.push(link(alloc, to, to_name, target)?)?;
+    changes.push(unlink(alloc, directory, name)?)?;
+    Ok(Plan::Writes(Operation {
+        changes,
+        texts: Vec::new(alloc),
+    }))
+}
+
 /// What a course comes to, with this as what is put or made.
 pub(crate) fn plan_of<A: Allocator + Copy>(
     alloc: A,
@@ -215,6 +238,13 @@ pub(crate) fn plan_of<A: Allocator + Copy>(
             let change = link(alloc, *directory, name, *target)?;
             one(alloc, change)
         }
+        Course::LinkAndUnlink {
+            to,
+            to_name,
+            target,
+            directory,
+            name,
+        } => link_and_unlink(alloc, *to, to_name, *target, *directory, name),
     }
 }
 
@@ -223,6 +253,7 @@ pub(crate) fn or_stop<A: Allocator>(planned: Result<Plan<A>, Memory>) -> Result<
     ensures plan { (outcome : Outcome) → IfOk planned (IsPlanOf outcome) → IfOk result (IsPlanOf outcome) }
     ensures can_begin { IfOk planned CanBegin → IfOk result CanBegin }
     ensures changes { (outcome : Outcome) → OnErr planned (IsChange outcome) → OnErr result (IsChange outcome) }
+    ensures few { (n : ℕ) → IfOk planned (HasFew n) → IfOk result (HasFew n) }
     ensures memory { IfErr result (λ e. e ≡ Stop.Memory) }
 {
     match planned {

@@ -1,11 +1,12 @@
 //! Sessions.
 
 ghost use Rattle.std.specs.Prelude.{◌≡◌, [], false, true, IfSome, IsSome, None, OnOk, Result};
+ghost use Rattle.std.specs.List.{list_any};
 ghost use Rattle.std.specs.Option.{option_copied};
 ghost use Rattle.client_releases.specs.declared.phase.Phase.TheVariants as phase;
 ghost use Rattle.client_steps.specs.Anywhere.{on_ok};
 ghost use Rattle.commands.specs.Answers.{Answer as AnswerOf, Refused, answer_of};
-ghost use Rattle.commands.specs.Asked.{early, has_path, is_too_large, told_of_lost};
+ghost use Rattle.commands.specs.Asked.{early, has_path, is_large, is_too_large, told_of_lost};
 ghost use Rattle.file_session.specs.Order.{Ready, ready_or};
 ghost use Rattle.file_session.specs.Parts.{Carried, IsLookEnded};
 ghost use Rattle.file_session.specs.Sessions.{Ran, answered, refused_by, stopped_by};
@@ -19,7 +20,7 @@ use crate::planning::{Operation, Plan};
 use crate::resumed::Resumed;
 use crate::stop::Stop;
 use client_verify::{Client, ClientError};
-use commands::{Answer, Command, Refusal, path_of, place_of};
+use commands::{Answer, Command, MOST_FILES, NewFile, Refusal, have_names, path_of, place_of};
 use itable::FILE_SIZE;
 use layout::{User, let_go};
 use leaf_ledger::Device;
@@ -29,8 +30,8 @@ use update_cert::MOST_CHANGES;
 
 /// A client over a transport, for commands of its user.
 pub struct Session<L: Device, J: Device, T, A: Allocator> {
-    conversation: Conversation<L, J, T, A>,
-    resumed: Option<Resumed<A>>,
+    pub(crate) conversation: Conversation<L, J, T, A>,
+    pub(crate) resumed: Option<Resumed<A>>,
 }
 
 /// How an error of a client is told, also of one that isn't opened.
@@ -49,7 +50,7 @@ pub fn refusal_of(error: ClientError) -> Refusal
 }
 
 /// What stopped a session, as it is told.
-fn told<A: Allocator>(stop: Stop) -> Answer<A>
+pub(crate) fn told<A: Allocator>(stop: Stop) -> Answer<A>
     ensures { answer_of result ≡ stopped_by stop }
 {
     match stop {
@@ -77,29 +78,48 @@ fn has_path(command: &Command<'_>) -> bool
     ensures { result ≡ has_path command.now }
 {
     match command {
-        Command::Ls(path) | Command::Cat(path) | Command::Mkdir(path) | Command::Rm(path) => {
-            path_of(path).is_some()
-        }
+        Command::Ls(path) | Command::Details(path) | Command::Cat(path) => path_of(path).is_some(),
+        Command::Mkdir(path) | Command::Rm(path) => path_of(path).is_some(),
         Command::Put { path, .. } => path_of(path).is_some(),
+        Command::PutAll { directory, files } => path_of(directory).is_some() && have_names(files),
+        Command::AddName { path, to } | Command::DropName { path, to } => {
+            path_of(path).is_some() && path_of(to).is_some()
+        }
         Command::Link { path, target } => path_of(path).is_some() && place_of(target).is_some(),
         Command::AddUser { .. } | Command::SetKey { .. } => true,
         Command::AddMember { .. } | Command::DropMember { .. } | Command::Admin(_) => true,
     }
 }
 
-/// Whether the content of a command has more bytes than a file may have, or a command more changes than an operation.
+/// Whether these are more bytes than a file may have.
+fn is_large(content: &[u8]) -> bool
+    ensures { result ≡ is_large content.now }
+{
+    content.len() > FILE_SIZE as usize
+}
+
+/// Whether one of these files has more.
+fn is_one_large(files: &[NewFile<'_>]) -> bool
+    ensures { result ≡ list_any (λ file. is_large file.content.now) files.now }
+{
+    files.iter().any(|file| is_large(file.content))
+}
+
+/// Whether a content of a command has more bytes than a file may have, or a command more files or changes than an
+/// operation.
 fn is_too_large(command: &Command<'_>) -> bool
     ensures { result ≡ is_too_large command.now }
 {
     match command {
-        Command::Put { content, .. } => content.len() > FILE_SIZE as usize,
+        Command::Put { content, .. } => is_large(content),
+        Command::PutAll { files, .. } => files.len() > MOST_FILES || is_one_large(files),
         Command::Admin(changes) => changes.len() > MOST_CHANGES,
         _ => false,
     }
 }
 
 /// What is told of a command by itself, before anything is sent.
-fn early(command: &Command<'_>) -> Option<Refusal>
+pub(crate) fn early(command: &Command<'_>) -> Option<Refusal>
     ensures { result ≡ early command.now }
 {
     if !has_path(command) {

@@ -49,11 +49,18 @@ fn last_name(path: &str) -> &str
 }
 
 /// The place of a path that leads to this site.
-fn place<'a>(path: &'a str, site: &Site) -> Place<'a>
+pub(crate) fn place<'a>(path: &'a str, site: &Site) -> Place<'a>
     ensures held { place_held result ≡ place_of_site (last_name (path_of path.now)) site.now }
     ensures named { HasName (last_name (path_of path.now)) site.now → IsNamed result }
 {
-    let name = last_name(path);
+    place_named(last_name(path), site)
+}
+
+/// The place of this name at this site.
+pub(crate) fn place_named<'a>(name: &'a str, site: &Site) -> Place<'a>
+    ensures held { place_held result ≡ place_of_site name.now site.now }
+    ensures named { HasName name.now site.now → IsNamed result }
+{
     match site {
         Site::At(target, stands) => Place::At(*target, *stands),
         Site::New(directory) => Place::New {

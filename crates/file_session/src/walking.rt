@@ -122,7 +122,7 @@ impl<L: Device, J: Device, T: Transport<A>, A: Allocator + Copy> Conversation<L,
     }
 
     /// What a name stands for in what stands there.
-    fn entry(&mut self, here: &Target, name: &str) -> Result<Option<Target>, Stop>
+    pub(crate) fn entry(&mut self, here: &Target, name: &str) -> Result<Option<Target>, Stop>
         requires { IsSome self.old.client.view }
         ensures looked { Looked T.answers (point self.old.client self.old.transport (Ready []))
             (point self.new.client self.new.transport (ready_or result))
@@ -157,7 +157,7 @@ impl<L: Device, J: Device, T: Transport<A>, A: Allocator + Copy> Conversation<L,
     }
 
     /// The site of a name in what stands there, if that is a directory.
-    fn site_in(&mut self, directory: Target, name: &str) -> Result<Option<Site>, Stop>
+    pub(crate) fn site_in(&mut self, directory: Target, name: &str) -> Result<Option<Site>, Stop>
         requires view { IsSome self.old.client.view }
         requires name { is_name name.now ≡ true }
         ensures looked { Looked T.answers (point self.old.client self.old.transport (Ready []))

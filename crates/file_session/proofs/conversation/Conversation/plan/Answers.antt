@@ -1,19 +1,31 @@
 use Rattle.std.proofs.Common.{[], ◌∷◌, refl}
 use Rattle.update_cert.specs.Change.{AddUser, AddMember, DropMember, SetKey, of_table}
 use Rattle.commands.specs.Asked.{Writes, all_on_table}
-use Rattle.file_session.proofs.Choices.{of_add_member, of_add_user, of_admin, of_cat, of_drop_member, of_link, of_link_not, of_ls, of_mkdir, of_put, of_rm, of_set_key, on_err, planned_as, planned_by, planned_now}
+use Rattle.file_session.proofs.Choices.{at_once_is, of_add_member, of_add_name, of_add_user, of_admin, of_cat, of_details, of_drop_member, of_drop_name, of_link, of_link_not, of_ls, of_mkdir, of_put, of_put_all, of_rm, of_set_key, on_err, planned_as, planned_by, planned_now}
 use Rattle.file_session.proofs.Looks.{quiet}
 use Rattle.file_session.proofs.Runs.{went_none}
 use Rattle.file_session.proofs.conversation.Conversation.plan.Goals as goal
 
 pub returns-in-Ls-clause-planned : goal.returns-in-Ls-clause-planned
-returns-in-Ls-clause-planned g c = planned_as _ _ (λ tree. of_ls c.args.user _ c.in-Ls.path tree c.in-Ls.is) c.list.ensures.planned
+returns-in-Ls-clause-planned g c = planned_as _ _ (λ tree. of_ls c.args.user _ c.in-Ls.path tree c.in-Ls.is) (at_once_is c.list.result c.at_once.result c.at_once.ensures c.list.ensures.planned)
+
+pub returns-in-Details-clause-planned : goal.returns-in-Details-clause-planned
+returns-in-Details-clause-planned g c = planned_as _ _ (λ tree. of_details c.args.user _ c.in-Details.path tree c.in-Details.is) (at_once_is c.detail.result c.at_once-in-Details.result c.at_once-in-Details.ensures c.detail.ensures.planned)
 
 pub returns-in-Cat-clause-planned : goal.returns-in-Cat-clause-planned
-returns-in-Cat-clause-planned g c = planned_as _ _ (λ tree. of_cat c.args.user _ c.in-Cat.path tree c.in-Cat.is) c.read.ensures.planned
+returns-in-Cat-clause-planned g c = planned_as _ _ (λ tree. of_cat c.args.user _ c.in-Cat.path tree c.in-Cat.is) (at_once_is c.read.result c.at_once-in-Cat.result c.at_once-in-Cat.ensures c.read.ensures.planned)
 
 pub returns-in-Put-clause-planned : goal.returns-in-Put-clause-planned
 returns-in-Put-clause-planned g c = planned_as _ _ (λ tree. of_put c.args.user _ c.in-Put.path c.in-Put.content tree c.in-Put.is) c.put.ensures.planned
+
+pub returns-in-PutAll-clause-planned : goal.returns-in-PutAll-clause-planned
+returns-in-PutAll-clause-planned g c = planned_as _ _ (λ tree. of_put_all c.args.user _ c.in-PutAll.directory c.in-PutAll.files tree c.in-PutAll.is) c.put_all.ensures.planned
+
+pub returns-in-AddName-clause-planned : goal.returns-in-AddName-clause-planned
+returns-in-AddName-clause-planned g c = planned_as _ _ (λ tree. of_add_name c.args.user _ c.in-AddName.path c.in-AddName.to tree c.in-AddName.is) (c.add_name.ensures.planned c.args.user)
+
+pub returns-in-DropName-clause-planned : goal.returns-in-DropName-clause-planned
+returns-in-DropName-clause-planned g c = planned_as _ _ (λ tree. of_drop_name c.args.user _ c.in-DropName.path c.in-DropName.to tree c.in-DropName.is) (c.drop_name.ensures.planned c.args.user)
 
 pub returns-in-Mkdir-clause-planned : goal.returns-in-Mkdir-clause-planned
 returns-in-Mkdir-clause-planned g c = planned_as _ _ (λ tree. of_mkdir c.args.user _ c.in-Mkdir.path tree c.in-Mkdir.is) c.make.ensures.planned

@@ -1,7 +1,7 @@
-use Rattle.std.proofs.Common.{◌∙◌}
+use Rattle.std.proofs.Common.{sym, ◌∙◌}
 use Rattle.std.proofs.lemmas.Result.{err_from_is_err_and}
 use Rattle.commands.specs.Asked.{reads}
-use Rattle.file_session.proofs.Choices.{planned_not, planned_now}
+use Rattle.file_session.proofs.Choices.{planned_not, told_now}
 use Rattle.file_session.proofs.Looks.{looked_next, looked_so}
 use Rattle.file_session.proofs.Walks.{at_an_end, at_no_end, reads_is}
 use Rattle.file_session.proofs.conversation.Conversation.read.Goals as goal
@@ -13,7 +13,7 @@ returns-in_err-end-clause-planned g c =
 
 pub returns-in_default-clause-planned : goal.returns-in_default-clause-planned
 returns-in_default-clause-planned g c =
-    planned_now _ _ _ (looked_so _ c.in_ok-end.ensures.looked (λ tree is. at_no_end tree reads _ c.in_ok-end.field-0 c.in_default.not-Some is)) c.refused.ensures.plan c.refused.ensures.can_begin
+    told_now _ _ (looked_so _ c.in_ok-end.ensures.looked (λ tree is. at_no_end tree reads _ c.in_ok-end.field-0 c.in_default.not-Some is))
 
 pub returns-in_err-found-clause-planned : goal.returns-in_err-found-clause-planned
 returns-in_err-found-clause-planned g c =
@@ -22,5 +22,5 @@ returns-in_err-found-clause-planned g c =
 
 pub returns-clause-planned : goal.returns-clause-planned
 returns-clause-planned g c =
-    planned_now _ _ _ (looked_next _ c.in_ok-end.ensures.looked c.in_ok-found.ensures.looked (λ tree is found.
-    at_an_end tree reads _ c.in_ok-end.field-0 c.in-Some.end c.in-Some.is is ∙ reads_is _ _ found)) c.shown.ensures.plan c.shown.ensures.can_begin
+    told_now _ c.shown.result (looked_next _ c.in_ok-end.ensures.looked c.in_ok-found.ensures.looked (λ tree is found.
+    at_an_end tree reads _ c.in_ok-end.field-0 c.in-Some.end c.in-Some.is is ∙ reads_is _ _ found ∙ sym c.shown.ensures))
