@@ -68,6 +68,14 @@ module _ (answers : View → Question → Sees → Type 0) (tells : View → Acc
       let (mid, c, first_part, rest) = in_two m s.after earlier later next after more in
       (mid, c, (m, one, first_part), rest)
 
+  -- an open client's view is told of the view that was accepted last, which is the user's
+  abbrev pub Has : Option View → Client → Type 0
+  Has last c = IfSome (view_told c) (λ v. IsSomeAnd last (λ x. tells x v)) × ((x : View) → last ≡ Some x → IsOf x)
+
+  pub has_along : (last : Option View) (before : Client) (steps : List StepTaken) (next : Option View) (after : Client) → Has last before → Along last before steps next after → Has next after
+  has_along last before [] next after has along = subst (Has next) (sym along.1) (subst (λ (l : Option View). Has l before) (sym along.0) has)
+  has_along last before (s ∷ later) next after has (mid, one, more) = has_along mid s.after later next after (one.view, one.own) more
+
   -- they lead to where the steps lead
   pub same_end : (o : Owner) (last : Option View) (before : Client) (steps : List StepTaken) (next : Option View) (c after : Client) → Along last before steps next c → AreSteps o before steps after → c ≡ after
   same_end o last before [] next c after along is = along.1 ∙ sym is

@@ -1,19 +1,22 @@
 -- What a command tells, by what its session's moves tell.
-use Rattle.std.proofs.Common.{◌≡◌, ℕ, List, [], ◌∷◌, ◌++◌, Option, Some, None, Result, Ok, refl, sym, ap, ◌∙◌, subst, inl, inr}
-use Rattle.std.specs.Prelude.{◌⊎◌}
+use Rattle.std.proofs.Common.{◌≡◌, ℕ, Bool, true, false, ◌&&◌, List, [], ◌∷◌, ◌++◌, Option, Some, None, Result, Ok, IfSome, IsSome, IsSomeAnd, refl, sym, ap, ◌∙◌, subst, inl, inr}
+use Rattle.std.specs.Prelude.{◌⊎◌, is_some}
+use Rattle.std.specs.List.{Contains}
 use Rattle.layout.specs.Types.{Bytes, Key, User}
 use Rattle.update_cert.specs.Reading.{Reading}
-use Rattle.agreement.specs.Runs.{View}
-use Rattle.client_verify.specs.State.{State}
+use Rattle.agreement.specs.Runs.{View, user_of}
+use Rattle.client_verify.specs.State.{AcceptedView, State}
 use Rattle.commands.specs.Answers.{Answer}
-use Rattle.commands.specs.Asked.{Tells, outcome}
+use Rattle.commands.specs.Asked.{Tells, only_reads, outcome}
 use Rattle.commands.specs.declared.command.Command.{Command}
 use Rattle.file_session.specs.declared.stop.Stop.{Stop}
 use Rattle.file_session.specs.Sessions.{IsCarriedOut, IsCommand, IsDone, IsResumed, Resumed}
-use Rattle.file_session.specs.Went.{Agrees, Answering, Begun, Event, Saw, Seen, Signed, Unbegun, Unplanned, looks, signs}
-use Rattle.session_runs.specs.Lives.{Carried}
+use Rattle.file_session.specs.Told.{IsShown, can_tell, is_idle}
+use Rattle.file_session.specs.Went.{Agrees, Answering, Begun, Event, Saw, Seen, Signed, Unbegun, Unplanned, events, looks, signs}
+use Rattle.session_runs.specs.Lives.{Carried, Showing}
+use Rattle.fork_consistency.specs.Shown.{IsOfWorld}
 use Rattle.fork_consistency.specs.Worlds.{AreLost}
-use Rattle.session_runs.specs.Told.{AreTold, AreWritten, IsAnswered, IsOwn, IsOwnOperation, MovesTell, OfChanges, OfNumber, Operation, TellsWorlds, seen_by, signed_texts}
+use Rattle.session_runs.specs.Told.{AreTold, AreWritten, IsAnswered, IsOwn, IsOwnOperation, MovesTell, OfChanges, OfNumber, Operation, ReadsWorld, TellsWorlds, seen_by, signed_texts}
 
 module _ (reads : Reading) (key : Key) (accepted : List View) (u : User) (texts : List Bytes) where
   abbrev Told : Option View → Operation → List Event → Type 0
@@ -85,6 +88,24 @@ module _ (reads : Reading) (key : Key) (accepted : List View) (u : User) (texts 
 
 -- ---- a command
 
+-- a command that is told is told in a view
+viewed : (s : State) (c : Command) → can_tell s c ≡ true → IsSome s.view
+viewed s c can = go (only_reads c) s.view can
+  where
+    go : (b : Bool) (o : Option AcceptedView) → (b && (is_some o && is_idle s.phase)) ≡ true → IsSome o
+    go true (Some v) can = refl
+    go true None can = cc can
+    go false o can = cc can
+
+-- where there is an answer, looks are all
+nothing_more : (u : User) (c : Command) (seen : List Seen) (e : Event) (es : List Event) (answer : Answer) → IsShown u c seen (e ∷ es) (Ok answer) → ⊥
+nothing_more u c seen Unplanned [] answer is = is
+nothing_more u c seen Unplanned (e ∷ es) answer is = is
+nothing_more u c seen Unbegun es answer is = is
+nothing_more u c seen (Begun changes laid) es answer is = is
+nothing_more u c seen (Saw s) es answer is = is
+nothing_more u c seen (Signed lost) es answer is = is
+
 module _ (reads : Reading) (key : Key) (accepted : List View) (u : User) where
   pub command_tells : {T : Type 0} (answers : Answering T) (c : Carried answers) → c.before.user ≡ u → MovesTell reads key accepted u c.before.number c.ran.moves → TellsWorlds answers reads key accepted u c
   command_tells answers c own_user (last, told) =
@@ -99,3 +120,29 @@ module _ (reads : Reading) (key : Key) (accepted : List View) (u : User) where
             answered reads key accepted u texts c.command answer c.after c.ran.es command (reached reads key accepted u texts c.before c.ran.signed c.ran.es answer c.resumed c.after finished) own.0 (OfNumber c.before.number) own.1;
         resumed = resumed_told reads key accepted u texts c.before c.ran.signed c.ran.es c.result c.resumed c.after c.ran.finished last all;
       }
+
+  -- ---- a command that is told in the view that the client has
+
+  pub read_tells : {T : Type 0} (answers : Answering T) (c : Showing answers) (last : Option View) → c.before.user ≡ u
+      → IfSome c.before.view (λ v. IsSomeAnd last (λ x. IsOfWorld reads key accepted x v)) → ((x : View) → last ≡ Some x → Contains accepted x × (user_of x ≡ u))
+      → AreTold reads key accepted u (signed_texts c.told.moves) last (OfNumber c.before.number) (events c.told.moves) → ReadsWorld answers reads key accepted u c
+  read_tells answers c last own_user has own told =
+      let r = go c.before.view last (viewed c.before c.command c.can) has own (subst (Told last (OfNumber c.before.number)) c.told.order told) in
+      record { view = r.0; among = r.1.0; user = r.1.1; held = r.2; answer = r.3 }
+    where
+      texts : List Bytes
+      texts = signed_texts c.told.moves
+
+      Told : Option View → Operation → List Event → Type 0
+      Told = AreTold reads key accepted u texts
+
+      shown : (x : View) (seen : List Seen) (es : List Event) (answer : Answer) → IsShown c.before.user c.command seen es (Ok answer) → Agrees (seen_by reads key accepted x) seen → outcome u c.command (seen_by reads key accepted x) ≡ Tells answer
+      shown x seen [] answer is agrees = ap (λ (v : User). outcome v c.command (seen_by reads key accepted x)) (sym own_user) ∙ is (seen_by reads key accepted x) agrees
+      shown x seen (e ∷ es) answer is agrees = absurd (nothing_more c.before.user c.command seen e es answer is)
+
+      go : (o : Option AcceptedView) (l : Option View) → IsSome o → IfSome o (λ v. IsSomeAnd l (λ x. IsOfWorld reads key accepted x v)) → ((x : View) → l ≡ Some x → Contains accepted x × (user_of x ≡ u)) → Told l (OfNumber c.before.number) (looks c.told.seen ++ c.told.es)
+          → (x : View) × (Contains accepted x × (user_of x ≡ u)) × IsSomeAnd o (IsOfWorld reads key accepted x) × ((answer : Answer) → c.result ≡ Ok answer → outcome u c.command (seen_by reads key accepted x) ≡ Tells answer)
+      go None l some has own told = absurd (cc some)
+      go (Some v) None some has own told = absurd has
+      go (Some v) (Some x) some has own told =
+          (x, own x refl, has, λ answer is. shown x c.told.seen c.told.es answer (subst (IsShown c.before.user c.command c.told.seen c.told.es) is c.told.shown) (past_looks reads key accepted u texts c.told.seen c.told.es x (OfNumber c.before.number) told).0)

@@ -10,7 +10,7 @@ use Rattle.file_session.specs.Calls.{Call, step_of}
 use Rattle.file_session.specs.Calls as session
 use Rattle.file_session.specs.Order.{Calls, LacksLeaves, LacksNumbers, LacksPlan, Move, Sends}
 use Rattle.file_session.specs.Went.{Answering, At, Moves}
-use Rattle.session_runs.specs.Lives.{Carries, Deed, IsCut, IsLife, Leads, LivesAreRuns, Takes, steps_by, steps_in}
+use Rattle.session_runs.specs.Lives.{Carries, Deed, IsCut, IsLife, Leads, LivesAreRuns, Reads, Takes, steps_by, steps_in}
 
 -- what a session's call is to its client
 pub call_steps : (s : State) (call : Call) (new : State) → session.Leads s call new → FromOpen s (step_of call) (Open new) × IsSound (Open new)
@@ -40,6 +40,7 @@ module _ {T : Type 0} (answers : Answering T) (o : Owner) where
   -- so are deeds
   pub deed_is_steps : (before : Client) (d : Deed answers) (after : Client) → Leads answers o before d after → AreSteps o before (steps_by answers d) after
   deed_is_steps before (Carries c) after is = named (Open c.before) (Open c.after) before after (steps_by answers (Carries c)) is.0 is.1 (moves_are_steps _ c.ran.moves _ c.ran.run)
+  deed_is_steps before (Reads c) after is = named (Open c.before) (Open c.after) before after (steps_by answers (Reads c)) is.0 is.1 (moves_are_steps _ c.told.moves _ c.told.run)
   deed_is_steps before (IsCut c) after is = named (Open c.before) (Open c.reached.client) before after (steps_by answers (IsCut c)) is.0 is.1 (moves_are_steps _ c.moves c.reached c.run)
   deed_is_steps before (Takes s) after is = (is.0, is.1, is.2)
 

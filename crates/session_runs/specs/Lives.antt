@@ -1,5 +1,5 @@
 -- What happens to a user's client: it is opened, carries out commands by sessions, is closed, and crashes.
-use Rattle.std.specs.Prelude.{◌≡◌, List, [], ◌∷◌, Option, Result}
+use Rattle.std.specs.Prelude.{◌≡◌, true, List, [], ◌∷◌, Option, Result}
 use Rattle.std.specs.List.{flat_map}
 use Rattle.layout.specs.Types.{User}
 use Rattle.client_verify.specs.State.{State}
@@ -13,6 +13,7 @@ use Rattle.file_session.specs.declared.stop.Stop.{Stop}
 use Rattle.file_session.specs.Calls.{step_of}
 use Rattle.file_session.specs.Order.{Calls, Move, resuming}
 use Rattle.file_session.specs.Sessions.{Ran, Resumed}
+use Rattle.file_session.specs.Told.{Told, can_tell}
 use Rattle.file_session.specs.Went.{Answering, At, Moves, point}
 
 -- ---- deeds
@@ -32,6 +33,18 @@ pub record Carried {T : Type 0} (answers : Answering T) : Type 0 where
   pub result : Result Answer Stop
   pub ran : Ran answers before over before.user command after left resumed result
 
+-- a command that a session told in the view that its client had: the client and the transport before it and after it,
+-- and what it told
+pub record Showing {T : Type 0} (answers : Answering T) : Type 0 where
+  pub command : Command
+  pub before : State
+  pub over : T
+  pub after : State
+  pub left : T
+  pub result : Result Answer Stop
+  pub can : can_tell before command ≡ true
+  pub told : Told answers before over command after left result
+
 -- A session as far as it came: a crash may follow after any of its moves. One inside a call is a call whose device
 -- fails, and then a crash.
 pub record CutShort {T : Type 0} (answers : Answering T) : Type 0 where
@@ -41,10 +54,11 @@ pub record CutShort {T : Type 0} (answers : Answering T) : Type 0 where
   pub reached : At T
   pub run : Moves answers (start before over) moves reached
 
--- A session carries out a command, or is cut short. Or the client takes a step by itself: it is opened, or refused, it
--- is closed, it gains a key while it is, or it crashes.
+-- A session carries out a command, or tells it in the view that its client has, or is cut short. Or the client takes a
+-- step by itself: it is opened, or refused, it is closed, it gains a key while it is, or it crashes.
 pub data Deed {T : Type 0} (answers : Answering T) : Type 0 where
   Carries : Carried answers → Deed answers
+  Reads : Showing answers → Deed answers
   IsCut : CutShort answers → Deed answers
   Takes : StepTaken → Deed answers
 
@@ -60,12 +74,14 @@ steps_in answers a (other ∷ ms) b (mid, one, more) = steps_in answers mid ms b
 
 abbrev pub steps_by : {T : Type 0} (answers : Answering T) → Deed answers → List StepTaken
 steps_by answers (Carries c) = steps_in answers _ c.ran.moves _ c.ran.run
+steps_by answers (Reads c) = steps_in answers _ c.told.moves _ c.told.run
 steps_by answers (IsCut c) = steps_in answers _ c.moves c.reached c.run
 steps_by answers (Takes s) = s ∷ []
 
 -- from the client before a deed to the one after it
 abbrev pub Leads : {T : Type 0} (answers : Answering T) → Owner → Client → Deed answers → Client → Type 0
 Leads answers o before (Carries c) after = (before ≡ Open c.before) × (after ≡ Open c.after)
+Leads answers o before (Reads c) after = (before ≡ Open c.before) × (after ≡ Open c.after)
 Leads answers o before (IsCut c) after = (before ≡ Open c.before) × (after ≡ Open c.reached.client)
 Leads answers o before (Takes s) after = IsStep o before s.call s.after × IsSound s.after × (after ≡ s.after)
 

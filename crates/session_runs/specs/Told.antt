@@ -1,5 +1,5 @@
 -- What sessions tell is so in the worlds of the lines of their users' accepted views.
-use Rattle.std.specs.Prelude.{◌≡◌, ◌⊎◌, ℕ, List, [], ◌∷◌, ◌++◌, Option, Some, Ok, IsSomeAnd}
+use Rattle.std.specs.Prelude.{◌≡◌, ◌⊎◌, ℕ, List, [], ◌∷◌, Option, Some, Ok, IsSomeAnd}
 use Rattle.std.specs.List.{All, Contains, flat_map}
 use Rattle.layout.specs.Types.{Bytes, Digest, Key, User, Version}
 use Rattle.version_order.specs.Structure.{Structure, structure}
@@ -16,7 +16,7 @@ use Rattle.commands.specs.Answers.{Answer}
 use Rattle.commands.specs.Asked.{Tells, Writes, outcome, told_of_lost}
 use Rattle.commands.specs.declared.command.Command.{Command}
 use Rattle.fork_consistency.specs.Premises.{AreKeys, Premises}
-use Rattle.fork_consistency.specs.Shown.{seen_in}
+use Rattle.fork_consistency.specs.Shown.{IsOfWorld, seen_in}
 use Rattle.fork_consistency.specs.Worlds.{AreLost, IsReadingOf}
 use Rattle.file_session.specs.Calls.{Signs}
 use Rattle.file_session.specs.Declaring.{all_declared}
@@ -24,7 +24,7 @@ use Rattle.file_session.specs.Order.{Calls, Move}
 use Rattle.file_session.specs.Sessions.{Resumed}
 use Rattle.file_session.specs.Went.{Answering, Begun, Event as Tale, IsSeenIn, Saw, Signed as Numbers, Unbegun}
 use Rattle.file_session.specs.Went.{Unplanned, events}
-use Rattle.session_runs.specs.Lives.{AreLives, Carried, Carries, Deed, IsCut, Takes}
+use Rattle.session_runs.specs.Lives.{AreLives, Carried, Carries, Deed, IsCut, Reads, Showing, Takes}
 
 -- the structures that a session signs, as it sends them
 abbrev pub signed_by : Move → List Bytes
@@ -125,9 +125,21 @@ pub record TellsWorlds {T : Type 0} (answers : Answering T) (reads : Reading) (k
       → (x : View) × IsOwn accepted u (signed_texts c.ran.moves) x × IsOwnOperation (OfNumber r.number) x
       × AreLost reads key accepted x r.lost
 
+-- A command that was told in the view that its client had: in the world of that view's line the answer is what the
+-- command comes to. It is an accepted one of the user's, and what the client tells of it is so in that world.
+pub record ReadsWorld {T : Type 0} (answers : Answering T) (reads : Reading) (key : Key) (accepted : List View)
+    (u : User) (c : Showing answers) : Type 0 where
+  pub view : View
+  pub among : Contains accepted view
+  pub user : user_of view ≡ u
+  pub held : IsSomeAnd c.before.view (IsOfWorld reads key accepted view)
+  pub answer : (answer : Answer) → c.result ≡ Ok answer
+      → outcome u c.command (seen_by reads key accepted view) ≡ Tells answer
+
 -- so is what each deed tells, also of a session that is cut short
 abbrev pub IsTold : {T : Type 0} (answers : Answering T) → Reading → Key → List View → User → Deed answers → Type 0
 IsTold answers reads key accepted u (Carries c) = TellsWorlds answers reads key accepted u c
+IsTold answers reads key accepted u (Reads c) = ReadsWorld answers reads key accepted u c
 IsTold answers reads key accepted u (IsCut c) = MovesTell reads key accepted u c.before.number c.moves
 IsTold answers reads key accepted u (Takes s) = Unit {0}
 
