@@ -4,15 +4,15 @@ use Rattle.std.specs.Prelude.{map, OnOk, IfErr, OnErr, IfSome, IfNone}
 use Rattle.std.specs.List.{All}
 use Rattle.std.proofs.lemmas.List.{append-nil}
 use Rattle.std.proofs.lemmas.List.Elements.{All-append}
-use Rattle.layout.specs.Types.{Bytes, Key}
+use Rattle.layout.specs.Types.{Bytes}
 use Rattle.wire.specs.Frame.{frame, request_of, reply_body}
 use Rattle.wire.specs.Stream.{frames_of, IsFrameThen, BeginsFrame, BeginsAtFault}
 use Rattle.consistency_server.specs.Answers.{Answer}
 use Rattle.server_workers.specs.declared.ended.Ended.{Ended}
 use Rattle.server_workers.specs.declared.ended.Ended.TheVariants as ended
 use Rattle.connection.specs.Told.{Told, goes_on}
-use Rattle.server_workers.specs.Conversation.{Exchange, IsExchange, RepliesToBody, count_in, requests, replies, counted, EndsWith, Conversed}
-use Rattle.server_workers.specs.Conversing.{Standing, Conversing, Steps, GoesOn}
+use Rattle.server_workers.specs.Conversation.{Server, Exchange, IsExchange, RepliesToBody, count_in, requests, replies, counted, EndsWith, Conversed}
+use Rattle.server_workers.specs.Conversing.{Standing, Conversing, Steps, GoesOn, WasReplied, HadStopped}
 
 -- ---- what a connection tells
 
@@ -66,44 +66,45 @@ abbrev standing : Option Told → ℕ → Bytes → Standing
 standing told answered waiting = record { told = told; answered = answered; waiting = waiting }
 
 -- before the first byte
-pub starts : (pinned : Key) (told : Option Told) (answered : ℕ) (waiting : Bytes) → waiting ≡ [] → Conversing pinned (standing told answered []) (standing told answered waiting)
+pub starts : (server : Server) (told : Option Told) (answered : ℕ) (waiting : Bytes) → waiting ≡ [] → Conversing server (standing told answered []) (standing told answered waiting)
 unfolding counted
-starts pinned told answered waiting none = record { exchanges = []; allowed = λ k d few. absurd (omega (arith, few)); told = told_none told ∙ ap (λ l. goes_on l [] told) (sym none); counts = omega arith }
+starts server told answered waiting none = record { exchanges = []; allowed = λ k d few. absurd (omega (arith, few)); told = told_none told ∙ ap (λ l. goes_on l [] told) (sym none); counts = omega arith }
 
 -- the reply to the next frame
-abbrev pub IsReplied : Key → Bytes → Answer → Type 0
-IsReplied pinned request reply = RepliesToBody pinned (request_of request) reply
+abbrev pub IsReplied : Server → Bytes → Answer → Type 0
+IsReplied server request reply = RepliesToBody server (request_of request) reply
 
 broken_ends : (e : Ended) (left unwritten : Bytes) → (e ≡ ended.Fault) ⊎ (e ≡ ended.Memory) → EndsWith e left unwritten
 broken_ends ended.End left unwritten kind = absurd (elim kind [ inl k ↦ cc | inr k ↦ cc ])
 broken_ends ended.Length left unwritten kind = absurd (elim kind [ inl k ↦ cc | inr k ↦ cc ])
 broken_ends ended.Fault left unwritten kind = tt
 broken_ends ended.Memory left unwritten kind = tt
+broken_ends ended.Stopped left unwritten kind = absurd (elim kind [ inl k ↦ cc | inr k ↦ cc ])
 
-pub replied : (pinned : Key) (told told' : Option Told) (answered answered' : ℕ) (waiting rest request : Bytes) (reply : Answer) {X : Type 0} (result : Result X Ended)
-    → IsFrameThen request rest waiting → IsReplied pinned request reply → answered' ≡ answered + count_in (request_of request) reply.status
+pub replied : (server : Server) (told told' : Option Told) (answered answered' : ℕ) (waiting rest request : Bytes) (reply : Answer) {X : Type 0} (result : Result X Ended)
+    → IsFrameThen request rest waiting → IsReplied server request reply → answered' ≡ answered + count_in (request_of request) reply.status
     → OnOk result (told' ≡ goes_on [] (frame.spell (reply_body reply.status reply.payload)) told)
     → IfErr result (λ _. (part after : Bytes) × (told' ≡ goes_on [] part told) × (frame.spell (reply_body reply.status reply.payload) ≡ part ++ after))
     → IfErr result (λ e. (e ≡ ended.Fault) ⊎ (e ≡ ended.Memory))
-    → GoesOn pinned (standing told answered waiting) result (standing told' answered' rest)
-replied pinned told told' answered answered' waiting rest request reply (Ok x) next allowed counts wrote broke kind start so =
+    → GoesOn server (standing told answered waiting) result (standing told' answered' rest)
+replied server told told' answered answered' waiting rest request reply (Ok x) next allowed counts wrote broke kind start so =
     let e : Exchange = record { request = request; reply = reply } in
     record {
       exchanges = so.exchanges ++ e ∷ [];
-      allowed = all_snoc (IsExchange pinned) so.exchanges e so.allowed (record { fits = next.0; replies = allowed });
+      allowed = all_snoc (IsExchange server) so.exchanges e so.allowed (record { fits = next.0; replies = allowed });
       told = two_steps start.told told told' (requests so.exchanges ++ waiting) [] (replies so.exchanges) (frame.spell (body_of e)) _ _ so.told wrote
           (append-nil (requests so.exchanges ++ waiting) ∙ ap (λ l. requests so.exchanges ++ l) next.1 ∙ sym (append_assoc (requests so.exchanges) (frame.spell request) rest) ∙ ap (λ l. l ++ rest) (sym (requests_snoc so.exchanges e)))
           (sym (replies_snoc so.exchanges e));
       counts = let h = counted_snoc so.exchanges e in let c = so.counts in omega (arith, h, c, counts);
     }
-replied pinned told told' answered answered' waiting rest request reply (Err broken) next allowed counts wrote (part, after, wrote_part, cut) kind start so =
+replied server told told' answered answered' waiting rest request reply (Err broken) next allowed counts wrote (part, after, wrote_part, cut) kind start so =
     let e : Exchange = record { request = request; reply = reply } in
     record {
       exchanges = so.exchanges ++ e ∷ [];
       left = rest;
       written = replies so.exchanges ++ part;
       unwritten = after;
-      allowed = all_snoc (IsExchange pinned) so.exchanges e so.allowed (record { fits = next.0; replies = allowed });
+      allowed = all_snoc (IsExchange server) so.exchanges e so.allowed (record { fits = next.0; replies = allowed });
       told = two_steps start.told told told' (requests so.exchanges ++ waiting) [] (replies so.exchanges) part _ _ so.told wrote_part
           (append-nil (requests so.exchanges ++ waiting) ∙ ap (λ l. requests so.exchanges ++ l) next.1 ∙ sym (append_assoc (requests so.exchanges) (frame.spell request) rest) ∙ ap (λ l. l ++ rest) (sym (requests_snoc so.exchanges e)))
           refl;
@@ -112,33 +113,62 @@ replied pinned told told' answered answered' waiting rest request reply (Err bro
       counts = let h = counted_snoc so.exchanges e in let c = so.counts in omega (arith, h, c, counts);
     }
 
+-- or the server had stopped
+pub had_stopped : (server : Server) (told told' : Option Told) (answered answered' : ℕ) (waiting rest request : Bytes) {X : Type 0} (result : Result X Ended)
+    → IsFrameThen request rest waiting → HadStopped server told told' answered answered' result
+    → GoesOn server (standing told answered waiting) result (standing told' answered' rest)
+had_stopped server told told' answered answered' waiting rest request result next h start so =
+    let ended_so : Conversed server start.told told' start.answered answered' ended.Stopped = record {
+      exchanges = so.exchanges;
+      left = waiting;
+      written = replies so.exchanges;
+      unwritten = [];
+      allowed = so.allowed;
+      told = h.told_same ∙ so.told;
+      in_order = sym (append-nil (replies so.exchanges));
+      whole = (refl, (request, rest, next));
+      counts = h.counts ∙ so.counts;
+    } in
+    subst (λ r. Steps server start r (standing told' answered' rest)) (sym h.stopped) ended_so
+
+-- one or the other
+pub replied_or_stopped : (server : Server) (told told' : Option Told) (answered answered' : ℕ) (waiting rest request : Bytes) {X : Type 0} (result : Result X Ended)
+    → IsFrameThen request rest waiting
+    → WasReplied server request told told' answered answered' result ⊎ HadStopped server told told' answered answered' result
+    → GoesOn server (standing told answered waiting) result (standing told' answered' rest)
+replied_or_stopped server told told' answered answered' waiting rest request result next (inl r) =
+    replied server told told' answered answered' waiting rest request r.reply result next r.allowed r.counts r.whole r.part r.broken
+replied_or_stopped server told told' answered answered' waiting rest request result next (inr h) =
+    had_stopped server told told' answered answered' waiting rest request result next h
+
 -- what is read is after what waits
 read_after : (es : List Exchange) (waiting piece : Bytes) → (requests es ++ waiting) ++ piece ≡ requests es ++ (waiting ++ piece)
 read_after es waiting piece = append_assoc (requests es) waiting piece
 
-at_end : (e : Ended) (waiting piece : Bytes) → (e ≡ ended.End → piece ≡ []) → e ≢ ended.Length → (¬ BeginsFrame waiting) × (¬ BeginsAtFault waiting) → EndsWith e (waiting ++ piece) []
+at_end : (e : Ended) (waiting piece : Bytes) → (e ≡ ended.End → piece ≡ []) → (e ≢ ended.Length) × (e ≢ ended.Stopped) → (¬ BeginsFrame waiting) × (¬ BeginsAtFault waiting) → EndsWith e (waiting ++ piece) []
 at_end ended.End waiting piece none other all =
     let is : waiting ≡ waiting ++ piece = sym (append-nil waiting) ∙ ap (λ l. waiting ++ l) (sym (none refl)) in
     (refl, subst (λ l. ¬ BeginsFrame l) is all.0, subst (λ l. ¬ BeginsAtFault l) is all.1)
-at_end ended.Length waiting piece none other all = absurd (other refl)
+at_end ended.Length waiting piece none other all = absurd (other.0 refl)
 at_end ended.Fault waiting piece none other all = tt
 at_end ended.Memory waiting piece none other all = tt
+at_end ended.Stopped waiting piece none other all = absurd (other.1 refl)
 
 -- the next frame isn't whole: more is read
-pub reads : (pinned : Key) (told told' : Option Told) (answered : ℕ) (waiting waiting' : Bytes) {X : Type 0} (result : Result X Ended)
+pub reads : (server : Server) (told told' : Option Told) (answered : ℕ) (waiting waiting' : Bytes) {X : Type 0} (result : Result X Ended)
     → OnOk result ((piece : Bytes) × (told' ≡ goes_on piece [] told) × (waiting' ≡ waiting ++ piece))
     → OnErr result ((piece : Bytes) × (told' ≡ goes_on piece [] told) × (result ≡ Err ended.End → piece ≡ []))
-    → IfErr result (λ e. e ≢ ended.Length)
+    → IfErr result (λ e. (e ≢ ended.Length) × (e ≢ ended.Stopped))
     → (¬ BeginsFrame waiting) × (¬ BeginsAtFault waiting)
-    → GoesOn pinned (standing told answered waiting) result (standing told' answered waiting')
-reads pinned told told' answered waiting waiting' (Ok x) (piece, read, more) broke kind all start so = record {
+    → GoesOn server (standing told answered waiting) result (standing told' answered waiting')
+reads server told told' answered waiting waiting' (Ok x) (piece, read, more) broke kind all start so = record {
   exchanges = so.exchanges;
   allowed = so.allowed;
   told = two_steps start.told told told' (requests so.exchanges ++ waiting) piece (replies so.exchanges) [] _ _ so.told read
       (read_after so.exchanges waiting piece ∙ ap (λ l. requests so.exchanges ++ l) (sym more)) (append-nil (replies so.exchanges));
   counts = so.counts;
 }
-reads pinned told told' answered waiting waiting' (Err e) ok (piece, read, none) kind all start so = record {
+reads server told told' answered waiting waiting' (Err e) ok (piece, read, none) kind all start so = record {
   exchanges = so.exchanges;
   left = waiting ++ piece;
   written = replies so.exchanges;
@@ -152,16 +182,16 @@ reads pinned told told' answered waiting waiting' (Err e) ok (piece, read, none)
 }
 
 -- where it was tried in vain to take a frame, which left what waits as it was
-pub reads_on : (pinned : Key) (told told' : Option Told) (answered : ℕ) (was waiting waiting' : Bytes) {X : Type 0} (result : Result X Ended)
+pub reads_on : (server : Server) (told told' : Option Told) (answered : ℕ) (was waiting waiting' : Bytes) {X : Type 0} (result : Result X Ended)
     → waiting ≡ was
     → OnOk result ((piece : Bytes) × (told' ≡ goes_on piece [] told) × (waiting' ≡ waiting ++ piece))
     → OnErr result ((piece : Bytes) × (told' ≡ goes_on piece [] told) × (result ≡ Err ended.End → piece ≡ []))
-    → IfErr result (λ e. e ≢ ended.Length)
+    → IfErr result (λ e. (e ≢ ended.Length) × (e ≢ ended.Stopped))
     → (¬ BeginsFrame was) × (¬ BeginsAtFault was)
-    → GoesOn pinned (standing told answered was) result (standing told' answered waiting')
-reads_on pinned told told' answered was waiting waiting' result same ok broke kind all =
-    subst (λ w. GoesOn pinned (standing told answered w) result (standing told' answered waiting')) same
-    (reads pinned told told' answered waiting waiting' result ok broke kind (subst (λ w. (¬ BeginsFrame w) × (¬ BeginsAtFault w)) (sym same) all))
+    → GoesOn server (standing told answered was) result (standing told' answered waiting')
+reads_on server told told' answered was waiting waiting' result same ok broke kind all =
+    subst (λ w. GoesOn server (standing told answered w) result (standing told' answered waiting')) same
+    (reads server told told' answered waiting waiting' result ok broke kind (subst (λ w. (¬ BeginsFrame w) × (¬ BeginsAtFault w)) (sym same) all))
 
 pub some_holds : {X : Type 0} (P : X → Type 0) (o : Option X) (x : X) → o ≡ Some x → IfSome o P → P x
 some_holds {X} P o x is holds = subst (λ (o : Option X). IfSome o P) is holds
@@ -170,8 +200,8 @@ pub none_holds : {X : Type 0} (P : Type 0) (o : Option X) → o ≡ None → IfN
 none_holds {X} P o is holds = subst (λ (o : Option X). IfNone o P) is holds
 
 -- it ends where it stands
-pub stops : (pinned : Key) (told : Option Told) (answered : ℕ) (waiting : Bytes) (e : Ended) (X : Type 0) → EndsWith e waiting [] → GoesOn pinned (standing told answered waiting) {X = X} (Err e) (standing told answered waiting)
-stops pinned told answered waiting e X whole start so = record {
+pub stops : (server : Server) (told : Option Told) (answered : ℕ) (waiting : Bytes) (e : Ended) (X : Type 0) → EndsWith e waiting [] → GoesOn server (standing told answered waiting) {X = X} (Err e) (standing told answered waiting)
+stops server told answered waiting e X whole start so = record {
   exchanges = so.exchanges;
   left = waiting;
   written = replies so.exchanges;
@@ -185,12 +215,12 @@ stops pinned told answered waiting e X whole start so = record {
 
 -- ---- what a step found
 
-pub went_on : (pinned : Key) (start now : Standing) {X : Type 0} (r : Result X Ended) (x : X) → r ≡ Ok x → Steps pinned start r now → Conversing pinned start now
-went_on pinned start now r x is steps = subst (λ o. Steps pinned start o now) is steps
+pub went_on : (server : Server) (start now : Standing) {X : Type 0} (r : Result X Ended) (x : X) → r ≡ Ok x → Steps server start r now → Conversing server start now
+went_on server start now r x is steps = subst (λ o. Steps server start o now) is steps
 
-pub ended_as : (pinned : Key) (start now : Standing) {X : Type 0} (r : Result X Ended) (e : Ended) → r ≡ Err e → Steps pinned start r now → Conversed pinned start.told now.told start.answered now.answered e
-ended_as pinned start now r e is steps = subst (λ o. Steps pinned start o now) is steps
+pub ended_as : (server : Server) (start now : Standing) {X : Type 0} (r : Result X Ended) (e : Ended) → r ≡ Err e → Steps server start r now → Conversed server start.told now.told start.answered now.answered e
+ended_as server start now r e is steps = subst (λ o. Steps server start o now) is steps
 
 -- nothing was read
-pub never_begun : (pinned : Key) (told : Option Told) (answered : ℕ) → Conversed pinned told told answered answered ended.Memory
-never_begun pinned told answered = stops pinned told answered [] ended.Memory (Unit {0}) tt (standing told answered []) (starts pinned told answered [] refl)
+pub never_begun : (server : Server) (told : Option Told) (answered : ℕ) → Conversed server told told answered answered ended.Memory
+never_begun server told answered = stops server told answered [] ended.Memory (Unit {0}) tt (standing told answered []) (starts server told answered [] refl)

@@ -1,5 +1,6 @@
 -- Connections: the frames of requests are read, and the frames of their replies are written.
-use Rattle.std.specs.Prelude.{◌≡◌, ◌≢◌, ◌⊎◌, ◌≤◌, ◌<◌, ◌+◌, ℕ, List, [], ◌∷◌, ◌++◌, length, map, Option, Some, None}
+use Rattle.std.specs.Prelude.{◌≡◌, ◌≢◌, ◌⊎◌, ◌≤◌, ◌<◌, ◌+◌, ℕ, Bool, true, false, List, [], ◌∷◌, ◌++◌, length, map}
+use Rattle.std.specs.Prelude.{Option, Some, None}
 use Rattle.std.specs.List.{All}
 use Rattle.block_store.specs.declared.store.TheConstants.{BLOCK_LIMIT}
 use Rattle.layout.specs.Hash.{hash}
@@ -15,7 +16,23 @@ use Rattle.consistency_server.specs.Answers.{Call, Answer}
 use Rattle.consistency_server.specs.History.{update_of, commit_of, answer_of}
 use Rattle.server_workers.specs.Counting.{count_of}
 use Rattle.server_workers.specs.declared.ended.Ended.{Ended}
-use Rattle.server_workers.specs.declared.ended.Ended.TheVariants.{End, Fault, Length, Memory}
+use Rattle.server_workers.specs.declared.ended.Ended.TheVariants.{End, Fault, Length, Memory, Stopped}
+
+-- ---- servers
+
+-- A server as its clients know it: user 0's key, and whether it keeps what it has on storage. Such a one knows SYNC,
+-- and stops where its storage fails.
+pub record Server : Type 0 where
+  pub pinned : Key
+  pub keeps : Bool
+
+-- one that has all in memory
+abbrev pub in_memory : Key → Server
+in_memory pinned = record { pinned = pinned; keeps = false }
+
+-- one that keeps all on storage
+abbrev pub on_storage : Key → Server
+on_storage pinned = record { pinned = pinned; keeps = true }
 
 -- ---- replies
 
@@ -52,18 +69,24 @@ RepliesToGet payload reply =
     ((length payload ≡ 32) × RepliesToDigest payload reply)
     ⊎ ((length payload ≢ 32) × (reply ≡ bare status.Form))
 
--- to SYNC, that it isn't known: the server keeps nothing
-abbrev pub RepliesTo : Key → RequestKind → Bytes → Answer → Type 0
-RepliesTo pinned Update text reply = RepliesToCall pinned (update_of text) reply
-RepliesTo pinned Commit text reply = RepliesToCall pinned (commit_of text) reply
-RepliesTo pinned Put block reply = RepliesToPut block reply
-RepliesTo pinned Get digest reply = RepliesToGet digest reply
-RepliesTo pinned Sync payload reply = reply ≡ bare status.Form
+-- to SYNC, with which nothing goes: that it is done, of a server that keeps its blocks; another doesn't know it
+abbrev pub RepliesToSync : Bool → Bytes → Answer → Type 0
+RepliesToSync true payload reply =
+    ((length payload ≡ 0) × (reply ≡ ok []))
+    ⊎ ((length payload ≢ 0) × (reply ≡ bare status.Form))
+RepliesToSync false payload reply = reply ≡ bare status.Form
+
+abbrev pub RepliesTo : Server → RequestKind → Bytes → Answer → Type 0
+RepliesTo server Update text reply = RepliesToCall server.pinned (update_of text) reply
+RepliesTo server Commit text reply = RepliesToCall server.pinned (commit_of text) reply
+RepliesTo server Put block reply = RepliesToPut block reply
+RepliesTo server Get digest reply = RepliesToGet digest reply
+RepliesTo server Sync payload reply = RepliesToSync server.keeps payload reply
 
 -- to what may be a request
-abbrev pub RepliesToBody : Key → Option (RequestKind × Bytes) → Answer → Type 0
-RepliesToBody pinned (Some (kind, payload)) reply = RepliesTo pinned kind payload reply
-RepliesToBody pinned None reply = reply ≡ bare status.Form
+abbrev pub RepliesToBody : Server → Option (RequestKind × Bytes) → Answer → Type 0
+RepliesToBody server (Some (kind, payload)) reply = RepliesTo server kind payload reply
+RepliesToBody server None reply = reply ≡ bare status.Form
 
 -- the reply counts as an answered call
 abbrev pub count_in : Option (RequestKind × Bytes) → Status → ℕ
@@ -82,9 +105,9 @@ pub record Exchange : Type 0 where
   pub reply : Answer
 
 -- the reply is one that the server may give
-pub record IsExchange (pinned : Key) (e : Exchange) : Type 0 where
+pub record IsExchange (server : Server) (e : Exchange) : Type 0 where
   pub fits : frame.Fits e.request
-  pub replies : RepliesToBody pinned (request_of e.request) e.reply
+  pub replies : RepliesToBody server (request_of e.request) e.reply
 
 -- the frames of the requests, in order
 abbrev pub requests : List Exchange → Bytes
@@ -100,23 +123,24 @@ counted [] = 0
 counted (e ∷ es) = count_in (request_of e.request) e.reply.status + counted es
 
 -- All frames that were read were replied to, where it ended by itself: at the end of the stream, or at a length at
--- fault.
+-- fault; all but one, where the server stopped.
 abbrev pub EndsWith : Ended → Bytes → Bytes → Type 0
 EndsWith End left unwritten = (unwritten ≡ []) × (¬ BeginsFrame left) × (¬ BeginsAtFault left)
 EndsWith Length left unwritten = (unwritten ≡ []) × BeginsAtFault left
 EndsWith Fault left unwritten = Unit {0}
 EndsWith Memory left unwritten = Unit {0}
+EndsWith Stopped left unwritten = (unwritten ≡ []) × BeginsFrame left
 
 -- So many bytes more were read and written, and so many calls more answered, as the exchanges say: what was read is the
 -- frames of their requests and a rest, and what was written is the frames of their replies, in order, but for an end.
 -- Of a connection that doesn't tell its bytes this says only that no call less was answered.
-pub record Conversed (pinned : Key) (before now : Option Told) (answered answered_now : ℕ)
+pub record Conversed (server : Server) (before now : Option Told) (answered answered_now : ℕ)
     (ended : Ended) : Type 0 where
   pub exchanges : List Exchange
   pub left : Bytes
   pub written : Bytes
   pub unwritten : Bytes
-  pub allowed : All (IsExchange pinned) exchanges
+  pub allowed : All (IsExchange server) exchanges
   pub told : now ≡ goes_on (requests exchanges ++ left) written before
   pub in_order : replies exchanges ≡ written ++ unwritten
   pub whole : EndsWith ended left unwritten

@@ -11,4 +11,6 @@ pub enum Ended {
     Length,
     /// Memory ran out.
     Memory,
+    /// The server had stopped, since the storage failed in which it keeps what it has: the last request has no reply.
+    Stopped,
 }

@@ -1,6 +1,6 @@
 //! What lies under the lock.
 
-ghost use Rattle.std.specs.Prelude.{◌≡◌, [], ◌∷◌, ◌+◌, ◌<◌, true, false, length, leb, IsTrue};
+ghost use Rattle.std.specs.Prelude.{◌≡◌, [], ◌∷◌, ◌+◌, ◌^◌, ◌<◌, true, false, length, leb, IsTrue};
 ghost use Rattle.consistency_server.specs.Signer.{judging_key};
 ghost use Rattle.consistency_server.specs.History.{IfCarriedOut, IfNotCarriedOut, answer_of, log_of};
 ghost use Rattle.consistency_server.specs.History.{is_carried_out, kept};
@@ -20,7 +20,7 @@ use lms_sign::PublicKey;
 use std::alloc::Allocator;
 use std::marker::Model;
 use std::sync::Wait;
-use std::sync::ledger::{Book, Ledger};
+use std::sync::ledger::{Book, Ledger, Share};
 use wire::Status;
 
 /// The one order of calls, the end of the log that pushes, and the book of the tallies. Contracts see the order.
@@ -161,16 +161,15 @@ impl<'a, A: Allocator + Copy, B: ServerName, L: Ledger, R: Wait> Locked<'a, A, B
         answer
     }
 
-    /// Puts a tally to the others.
-    pub(crate) fn collect(&mut self, all: &mut Tally<L>, one: Tally<L>)
+    /// Changes nothing, and tells that what a share has can be counted: it is no more than the history has calls.
+    pub(crate) fn audit(&mut self, share: &mut Share<L>)
         ensures same { self.new ≡ self.old }
-        ensures parts { all.new.share.parts ≡ all.old.share.parts + one.share.parts }
+        ensures parts { share.new.parts ≡ share.old.parts }
+        ensures amount { share.new.amount ≡ share.old.amount }
+        ensures small { share.new.amount < 2 ^ 64 }
     {
-        let Tally { answered, share } = one;
-        all.share.merge(share);
-        self.book.audit(&mut all.share);
+        self.book.audit(share);
         let _calls = call_count(&self.ordered);
-        all.answered += answered;
     }
 
     /// When all workers have ended: the history has as many calls as they answered.

@@ -26,7 +26,7 @@ enum Body<'a, A: Allocator> {
 
 /// A status, and what comes with `Ok`: no more bytes than a frame takes.
 #[derive(Drop)]
-pub(crate) struct ReplyBody<'a, A: Allocator> {
+pub struct ReplyBody<'a, A: Allocator> {
     body: Body<'a, A>,
 }
 
@@ -56,7 +56,7 @@ fn head_of(status: Status, size: u32) -> [u8; 5]
 
 impl<'a, A: Allocator> ReplyBody<'a, A> {
     /// A status with nothing after it.
-    pub(crate) fn bare(alloc: A, status: Status) -> ReplyBody<'a, A>
+    pub fn bare(alloc: A, status: Status) -> ReplyBody<'a, A>
         ensures { result ≡ bare status }
     {
         ReplyBody {
@@ -65,7 +65,7 @@ impl<'a, A: Allocator> ReplyBody<'a, A> {
     }
 
     /// `Ok`, with what comes with it.
-    pub(crate) fn ok(payload: Vec<u8, A>) -> ReplyBody<'a, A>
+    pub fn ok(payload: Vec<u8, A>) -> ReplyBody<'a, A>
         requires { length payload.items < BODY_LIMIT }
         ensures { result ≡ ok payload.items }
     {
@@ -85,7 +85,7 @@ impl<'a, A: Allocator> ReplyBody<'a, A> {
     }
 
     /// The answer to a call, of which no copy is made.
-    pub(crate) fn of(answer: Answer<A>) -> ReplyBody<'a, A>
+    pub fn of(answer: Answer<A>) -> ReplyBody<'a, A>
         ensures { result ≡ answer }
     {
         let _payload = answer.payload();
@@ -94,7 +94,8 @@ impl<'a, A: Allocator> ReplyBody<'a, A> {
         }
     }
 
-    pub(crate) fn status(&self) -> Status
+    /// Its status.
+    pub fn status(&self) -> Status
         ensures { result ≡ self.now.status }
     {
         match &self.body {

@@ -10,13 +10,13 @@ use lms_sign::PublicKey;
 /// The user of a connection's last certificate, and the key of that user that came last, as it stood under the lock
 /// then. Under the lock it is compared with the one that is listed.
 #[derive(Clone, Copy, Debug)]
-pub(crate) struct SeenKey {
-    pub(crate) user: User,
-    pub(crate) key: PublicKey,
+pub struct SeenKey {
+    pub user: User,
+    pub key: PublicKey,
 }
 
 /// The key that was seen, where it is the one by which this signer is judged: of a certificate of its user.
-pub(crate) fn seen_for(seen: Option<SeenKey>, signer: Signer) -> Option<PublicKey>
+pub fn seen_for(seen: Option<SeenKey>, signer: Signer) -> Option<PublicKey>
     ensures { result ≡ seen_for seen signer }
 {
     let SeenKey { user, key } = seen?;
@@ -28,7 +28,7 @@ pub(crate) fn seen_for(seen: Option<SeenKey>, signer: Signer) -> Option<PublicKe
 }
 
 /// The user of a certificate. None of a structure.
-pub(crate) fn certifier(signer: Option<Signer>) -> Option<User>
+pub fn certifier(signer: Option<Signer>) -> Option<User>
     ensures { result ≡ certifier signer }
 {
     let Signer { user, version } = signer?;
@@ -36,7 +36,7 @@ pub(crate) fn certifier(signer: Option<Signer>) -> Option<User>
 }
 
 /// What was seen last: the later, if there is one.
-pub(crate) fn see(seen: &mut Option<SeenKey>, later: Option<SeenKey>)
+pub fn see(seen: &mut Option<SeenKey>, later: Option<SeenKey>)
     ensures { seen.new ≡ later_seen later seen.old }
 {
     if later.is_some() {

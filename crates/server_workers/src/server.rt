@@ -13,6 +13,7 @@ use crate::flusher::{Flushed, Flusher};
 use crate::gate::Gate;
 use crate::new_queue::empty_queue;
 use crate::places::empty_places;
+use crate::serves::Serves;
 use crate::shared::Shared;
 use crate::tally::Tally;
 use crate::workers::{Shift, Site, Workers};
@@ -64,12 +65,13 @@ fn serve_beside<
     I: Iterator<Item = C> + Drop,
     W: Write + Drop + Send,
     B: ServerName + Send + Sync,
+    S: Serves<A, L, R> + Drop + Sync,
     L: Ledger + Send + Sync,
     R: Threads + Wait + Clock + Sync,
 >(
     rt: &R,
     flusher: Flusher<'a, A, B, R, W>,
-    shift: Shift<'_, '_, A, G, B, L, R, C, I>,
+    shift: Shift<'_, '_, A, G, S, L, R, C, I>,
 ) -> (Flusher<'a, A, B, R, W>, (Tally<L>, usize))
     ensures { result.1.0.share.parts ≡ L.parts }
 {
@@ -136,7 +138,7 @@ fn serve_in<
     let site = Site {
         rt,
         gate,
-        shared,
+        server: shared,
         places,
     };
     let shift = Shift {
@@ -146,8 +148,8 @@ fn serve_in<
         most,
     };
     let (flusher, (mut all, unserved)) = serve_beside(rt, flusher, shift);
-    let Site { shared, .. } = site;
-    let Shared { locked, .. } = shared;
+    let Site { server, .. } = site;
+    let Shared { locked, .. } = server;
     let (ordered, pushing) = locked.into_inner().close(&mut all);
     let Flushed { writer, flushed } = flusher.finish(pushing);
     Ok(Served {

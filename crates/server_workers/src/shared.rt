@@ -7,6 +7,7 @@ ghost use Rattle.consistency_server.specs.History.{call_of};
 ghost use Rattle.server_workers.specs.Counting.{count_of};
 ghost use Rattle.server_workers.specs.Hands.{hand, hand_of};
 ghost use Rattle.server_workers.specs.Conversation.{RepliesToCall, RepliesToPut, RepliesToGet, RepliesToBody, count_in};
+ghost use Rattle.server_workers.specs.Conversation.{in_memory};
 ghost use Rattle.server_workers.specs.declared.call_queue.TheConstants.{QUEUE_ROOM};
 
 use crate::call_queue::{CallPass, CallQueue, Roles, ServerName};
@@ -15,6 +16,7 @@ use crate::locked::Locked;
 use crate::queue_log::QueueLog;
 use crate::reply::ReplyBody;
 use crate::seen::{SeenKey, certifier, see, seen_for};
+use crate::serves::Serves;
 use crate::tally::Tally;
 use block_store::{Store, StoreError};
 use consistency_server::{Call, CallKind, Ordered, Signer, Verification, signer_of};
@@ -22,7 +24,7 @@ use layout::Digest;
 use lms_sign::PublicKey;
 use std::alloc::Allocator;
 use std::sync::atomic::{AtomicU64, Ordering};
-use std::sync::ledger::{Blank, Ledger};
+use std::sync::ledger::{Blank, Ledger, Share};
 use std::sync::{Mutex, Wait};
 use wire::{RequestKind, Status, request_of};
 
@@ -70,7 +72,7 @@ impl<'a, A: Allocator + Copy, B: ServerName, L: Ledger, R: Wait> Shared<'a, A, B
     }
 
     /// The reply to the body of a request's frame.
-    pub(crate) fn reply_to<G: Gate>(
+    fn reply<G: Gate>(
         &self,
         rt: &R,
         gate: &G,
@@ -79,7 +81,7 @@ impl<'a, A: Allocator + Copy, B: ServerName, L: Ledger, R: Wait> Shared<'a, A, B
         body: &[u8],
     ) -> ReplyBody<'_, A>
         requires { 0 < tally.old.share.parts }
-        ensures replies { RepliesToBody B.pinned (request_of body.now) result }
+        ensures replies { RepliesToBody (in_memory B.pinned) (request_of body.now) result }
         ensures counted { tally.new.answered ≡ tally.old.answered + count_in (request_of body.now) result.status }
         ensures parts { tally.new.share.parts ≡ tally.old.share.parts }
     {
@@ -186,5 +188,32 @@ impl<'a, A: Allocator + Copy, B: ServerName, L: Ledger, R: Wait> Shared<'a, A, B
             return ReplyBody::bare(self.alloc, Status::Absent);
         };
         ReplyBody::stored(self.store.get_by_pass(&pass))
+    }
+}
+
+/// All in memory: it keeps nothing, and never stops.
+impl<'a, A: Allocator + Copy, B: ServerName, L: Ledger, R: Wait> Serves<A, L, R>
+    for Shared<'a, A, B, L, R> {
+    ghost use Rattle.server_workers.specs.Conversation.{in_memory};
+
+    ghost server = { in_memory B.pinned };
+
+    fn alloc(&self) -> A {
+        self.alloc
+    }
+
+    fn reply_to<G: Gate>(
+        &self,
+        rt: &R,
+        gate: &G,
+        tally: &mut Tally<L>,
+        seen: &mut Option<SeenKey>,
+        body: &[u8],
+    ) -> Option<ReplyBody<'_, A>> {
+        Some(self.reply(rt, gate, tally, seen, body))
+    }
+
+    fn audit(&self, rt: &R, share: &mut Share<L>) {
+        self.locked.lock(rt).audit(share);
     }
 }

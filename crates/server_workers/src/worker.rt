@@ -5,17 +5,14 @@ ghost use Rattle.std.specs.Prelude.{length};
 ghost use Rattle.leaf_ledger.specs.Device.{HasRisen, HasCause};
 ghost use Rattle.server_workers.specs.declared.ended.Ended.TheVariants as ended;
 ghost use Rattle.connection.specs.Told.{goes_on};
-ghost use Rattle.wire.specs.Frame.{request_of};
-ghost use Rattle.consistency_server.specs.Answers.{Answer};
-ghost use Rattle.server_workers.specs.Conversation.{Conversed, RepliesToBody, count_in};
-ghost use Rattle.server_workers.specs.Conversing.{GoesOn, IsCaused, ToldPart, ToldWhole};
+ghost use Rattle.server_workers.specs.Conversation.{Conversed};
+ghost use Rattle.server_workers.specs.Conversing.{GoesOn, IsCaused, ToldPart, ToldWhole, WasReplied, HadStopped};
 
-use crate::call_queue::ServerName;
 use crate::ended::Ended;
 use crate::gate::Gate;
 use crate::reply::ReplyBody;
 use crate::seen::SeenKey;
-use crate::shared::Shared;
+use crate::serves::Serves;
 use crate::tally::{Tally, WorkerTally};
 use connection::{Connection, ConnectionFault};
 use layout::Memory;
@@ -104,7 +101,7 @@ fn read_on<A: Allocator, C: Connection>(
         × (frames.new ≡ frames.old ++ piece)) }
     ensures err { OnErr result ((piece : List ℕ) × (C.told connection.new ≡ goes_on piece [] (C.told connection.old))
         × (result ≡ Err ended.End → piece ≡ [])) }
-    ensures kind { IfErr result (λ e. e ≢ ended.Length) }
+    ensures kind { IfErr result (λ e. (e ≢ ended.Length) × (e ≢ ended.Stopped)) }
     ensures end { result ≡ Err ended.End → C.is_at_end connection.new ≡ true }
     ensures cause { IsCaused (C.fault_count connection.old) (C.fault_count connection.new) result }
 {
@@ -117,33 +114,36 @@ fn read_on<A: Allocator, C: Connection>(
 }
 
 /// Replies to the body of a request's frame.
-fn reply_to<A: Allocator + Copy, G: Gate, C: Connection, B: ServerName, L: Ledger, R: Wait>(
+fn reply_to<A: Allocator + Copy, G: Gate, C: Connection, L: Ledger, R: Wait, S: Serves<A, L, R>>(
     rt: &R,
     connection: &mut C,
-    shared: &Shared<'_, A, B, L, R>,
+    server: &S,
     gate: &G,
     tally: &mut Tally<L>,
     seen: &mut Option<SeenKey>,
     body: &[u8],
 ) -> Result<(), Ended>
     requires { 0 < tally.old.share.parts }
-    ensures replied { (reply : Answer) × RepliesToBody B.pinned (request_of body.now) reply
-        × (tally.new.answered ≡ tally.old.answered + count_in (request_of body.now) reply.status)
-        × OnOk result (ToldWhole reply (C.told connection.old) (C.told connection.new))
-        × IfErr result (λ _. ToldPart reply (C.told connection.old) (C.told connection.new)) }
-    ensures broken { IfErr result (λ e. (e ≡ ended.Fault) ⊎ (e ≡ ended.Memory)) }
+    ensures replied { WasReplied S.server body.now (C.told connection.old) (C.told connection.new)
+        tally.old.answered tally.new.answered result
+        ⊎ HadStopped S.server (C.told connection.old) (C.told connection.new)
+        tally.old.answered tally.new.answered result }
+    ensures end { result ≡ Err ended.End → ⊥ }
+    ensures stopped { result ≡ Err ended.Stopped → S.server.keeps ≡ true }
     ensures cause { IsCaused (C.fault_count connection.old) (C.fault_count connection.new) result }
     ensures parts { tally.new.share.parts ≡ tally.old.share.parts }
 {
-    let reply = shared.reply_to(rt, gate, tally, seen, body);
-    answer(shared.alloc, connection, &reply)
+    match server.reply_to(rt, gate, tally, seen, body) {
+        Some(reply) => answer(server.alloc(), connection, &reply),
+        None => Err(Ended::Stopped),
+    }
 }
 
 /// Replies to the next frame, or reads on where it isn't whole.
-fn step<A: Allocator + Copy, G: Gate, C: Connection, B: ServerName, L: Ledger, R: Wait>(
+fn step<A: Allocator + Copy, G: Gate, C: Connection, L: Ledger, R: Wait, S: Serves<A, L, R>>(
     rt: &R,
     connection: &mut C,
-    shared: &Shared<'_, A, B, L, R>,
+    server: &S,
     gate: &G,
     tally: &mut Tally<L>,
     seen: &mut Option<SeenKey>,
@@ -152,48 +152,52 @@ fn step<A: Allocator + Copy, G: Gate, C: Connection, B: ServerName, L: Ledger, R
 ) -> Result<(), Ended>
     requires part { 0 < tally.old.share.parts }
     requires room { 0 < length buffer.old }
-    ensures goes_on { GoesOn B.pinned
+    ensures goes_on { GoesOn S.server
         (record { told = C.told connection.old; answered = tally.old.answered; waiting = frames.old })
         result (record { told = C.told connection.new; answered = tally.new.answered; waiting = frames.new }) }
     ensures end { result ≡ Err ended.End → C.is_at_end connection.new ≡ true }
+    ensures stopped { result ≡ Err ended.Stopped → S.server.keeps ≡ true }
     ensures cause { IsCaused (C.fault_count connection.old) (C.fault_count connection.new) result }
     ensures parts { tally.new.share.parts ≡ tally.old.share.parts }
 {
     match frames.next_frame() {
-        Ok(Some(request)) => reply_to(rt, connection, shared, gate, tally, seen, &request),
+        Ok(Some(request)) => reply_to(rt, connection, server, gate, tally, seen, &request),
         Ok(None) => read_on(connection, frames, buffer),
         Err(FrameError::Length) => Err(Ended::Length),
         Err(FrameError::Memory) => Err(Ended::Memory),
     }
 }
 
-/// Replies to the requests of a connection, up to its end or fault, or to a length at fault.
-pub fn converse<A: Allocator + Copy, G: Gate, C: Connection, B: ServerName, L: Ledger, R: Wait>(
-    rt: &R,
-    connection: &mut C,
-    shared: &Shared<'_, A, B, L, R>,
-    gate: &G,
-    tally: &mut Tally<L>,
-) -> Ended
+/// Replies to the requests of a connection, up to its end or fault, or to a length at fault, or until the server stops.
+pub fn converse<
+    A: Allocator + Copy,
+    G: Gate,
+    C: Connection,
+    L: Ledger,
+    R: Wait,
+    S: Serves<A, L, R>,
+>(rt: &R, connection: &mut C, server: &S, gate: &G, tally: &mut Tally<L>) -> Ended
     requires { 0 < tally.old.share.parts }
-    ensures conversed { Conversed B.pinned (C.told connection.old) (C.told connection.new) tally.old.answered
+    ensures conversed { Conversed S.server (C.told connection.old) (C.told connection.new) tally.old.answered
         tally.new.answered result }
     // It was read to its end.
     ensures end { result ≡ ended.End → C.is_at_end connection.new ≡ true }
+    // Only a server that keeps what it has stops.
+    ensures stopped { result ≡ ended.Stopped → S.server.keeps ≡ true }
     // It did fail.
     ensures fault { result ≡ ended.Fault → HasRisen (C.fault_count connection.old) (C.fault_count connection.new) }
     ensures parts { tally.new.share.parts ≡ tally.old.share.parts }
 {
-    let Ok(mut buffer) = vec![in shared.alloc; 0u8; READ_SIZE] else {
+    let Ok(mut buffer) = vec![in server.alloc(); 0u8; READ_SIZE] else {
         return Ended::Memory;
     };
-    let mut frames = Frames::new(shared.alloc);
+    let mut frames = Frames::new(server.alloc());
     let mut seen = None;
     for _ in rt.forever() {
         let stepped = step(
             rt,
             connection,
-            shared,
+            server,
             gate,
             tally,
             &mut seen,
@@ -208,14 +212,15 @@ pub fn converse<A: Allocator + Copy, G: Gate, C: Connection, B: ServerName, L: L
 }
 
 /// A worker's whole work.
-pub(crate) fn work<A: Allocator + Copy, G: Gate, C: Connection, B: ServerName, L: Ledger, R: Wait>(
-    rt: &R,
-    mut connection: C,
-    shared: &Shared<'_, A, B, L, R>,
-    gate: &G,
-    part: WorkerTally<L>,
-) -> WorkerTally<L> {
+pub(crate) fn work<
+    A: Allocator + Copy,
+    G: Gate,
+    C: Connection,
+    L: Ledger,
+    R: Wait,
+    S: Serves<A, L, R>,
+>(rt: &R, mut connection: C, server: &S, gate: &G, part: WorkerTally<L>) -> WorkerTally<L> {
     let mut tally = part.tally();
-    let _ended = converse(rt, &mut connection, shared, gate, &mut tally);
+    let _ended = converse(rt, &mut connection, server, gate, &mut tally);
     WorkerTally::of(tally)
 }

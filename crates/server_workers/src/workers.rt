@@ -3,10 +3,9 @@
 ghost use Rattle.std.specs.Prelude.{◌≡◌, ◌+◌, ◌<◌, ◌≤◌, true, false, vec_len, vec_capacity};
 ghost use Rattle.std.specs.Iterator.{IsFinite};
 
-use crate::call_queue::ServerName;
 use crate::gate::Gate;
 use crate::places::{Place, Running, first_ended, first_free};
-use crate::shared::Shared;
+use crate::serves::Serves;
 use crate::tally::{Tally, WorkerTally};
 use crate::worker::work;
 use connection::Connection;
@@ -23,20 +22,20 @@ const REST: u64 = 1;
 
 const LONGEST_REST: u64 = 20;
 
-/// What each worker is given: what all share, the gate, and the places.
+/// What each worker is given: the server, the gate, and the places.
 #[derive(Drop)]
-pub(crate) struct Site<'a, A: Allocator, G, B: ServerName, L: Ledger, R: Wait> {
+pub(crate) struct Site<'a, A: Allocator, G, S: Drop, R: Wait> {
     pub(crate) rt: &'a R,
     pub(crate) gate: &'a G,
-    pub(crate) shared: Shared<'a, A, B, L, R>,
+    pub(crate) server: S,
     pub(crate) places: Vec<Place, A>,
 }
 
 /// A worker's whole work at a place, unless no thread could be started for it: then its connection is dropped unread.
-fn work_at<A: Allocator + Copy, G: Gate, C: Connection, B: ServerName, L: Ledger, R: Wait>(
+fn work_at<A: Allocator + Copy, G: Gate, C: Connection, L: Ledger, R: Wait, S: Serves<A, L, R>>(
     rt: &R,
     gate: &G,
-    shared: &Shared<'_, A, B, L, R>,
+    server: &S,
     place: &Place,
     connection: C,
     part: WorkerTally<L>,
@@ -44,33 +43,48 @@ fn work_at<A: Allocator + Copy, G: Gate, C: Connection, B: ServerName, L: Ledger
     if place.is_unread() {
         return part;
     }
-    let part = work(rt, connection, shared, gate, part);
+    let part = work(rt, connection, server, gate, part);
     place.end();
     part
+}
+
+/// Puts a tally to the others.
+fn collect<A: Allocator + Copy, S: Serves<A, L, R>, L: Ledger, R: Wait>(
+    rt: &R,
+    server: &S,
+    all: &mut Tally<L>,
+    one: Tally<L>,
+)
+    ensures { all.new.share.parts ≡ all.old.share.parts + one.share.parts }
+{
+    let Tally { answered, share } = one;
+    all.share.merge(share);
+    server.audit(rt, &mut all.share);
+    all.answered += answered;
 }
 
 /// Joins a worker, and puts its tally to the others.
 fn join_one<
     A: Allocator + Copy + Send + Sync,
     G: Gate,
-    B: ServerName,
+    S: Serves<A, L, R> + Drop,
     L: Ledger,
     R: Threads + Wait,
->(site: &Site<'_, A, G, B, L, R>, all: &mut Tally<L>, worker: JoinHandle<WorkerTally<L>>)
+>(site: &Site<'_, A, G, S, R>, all: &mut Tally<L>, worker: JoinHandle<WorkerTally<L>>)
     ensures { all.new.share.parts ≡ all.old.share.parts + 1 }
 {
     let one = worker.join(site.rt).tally();
-    site.shared.locked.lock(site.rt).collect(all, one);
+    collect(site.rt, &site.server, all, one);
 }
 
 /// Joins a worker that has ended, if there is one: its tally is put to the others, and its place is free.
 fn join_ended<
     A: Allocator + Copy + Send + Sync,
     G: Gate,
-    B: ServerName + Send + Sync,
+    S: Serves<A, L, R> + Drop + Sync,
     L: Ledger + Send + Sync,
     R: Threads + Wait + Clock + Sync,
->(site: &Site<'_, A, G, B, L, R>, all: &mut Tally<L>, running: &mut Vec<Running<L>, A>) -> bool
+>(site: &Site<'_, A, G, S, R>, all: &mut Tally<L>, running: &mut Vec<Running<L>, A>) -> bool
     ensures parts { result ≡ true → all.new.share.parts ≡ all.old.share.parts + 1 }
     ensures fewer { result ≡ true → vec_len running.new + 1 ≡ vec_len running.old }
     ensures none { result ≡ false → all.new.share.parts ≡ all.old.share.parts }
@@ -92,10 +106,10 @@ fn join_ended<
 fn free_place<
     A: Allocator + Copy + Send + Sync,
     G: Gate,
-    B: ServerName + Send + Sync,
+    S: Serves<A, L, R> + Drop + Sync,
     L: Ledger + Send + Sync,
     R: Threads + Wait + Clock + Sync,
->(site: &Site<'_, A, G, B, L, R>, all: &mut Tally<L>, running: &mut Vec<Running<L>, A>)
+>(site: &Site<'_, A, G, S, R>, all: &mut Tally<L>, running: &mut Vec<Running<L>, A>)
     ensures parts { all.new.share.parts ≡ all.old.share.parts + 1 }
     ensures fewer { vec_len running.new + 1 ≡ vec_len running.old }
     ensures room { vec_capacity running.new ≡ vec_capacity running.old }
@@ -113,16 +127,17 @@ fn free_place<
 }
 
 /// The tally of a worker for which no thread could be started is put to the others, and its place is free.
-fn give_up<A: Allocator + Copy + Send + Sync, G: Gate, B: ServerName, L: Ledger, R: Wait>(
-    site: &Site<'_, A, G, B, L, R>,
-    place: &Place,
-    all: &mut Tally<L>,
-    part: WorkerTally<L>,
-)
+fn give_up<
+    A: Allocator + Copy + Send + Sync,
+    G: Gate,
+    S: Serves<A, L, R> + Drop,
+    L: Ledger,
+    R: Wait,
+>(site: &Site<'_, A, G, S, R>, place: &Place, all: &mut Tally<L>, part: WorkerTally<L>)
     ensures { all.new.share.parts ≡ all.old.share.parts + 1 }
 {
     place.free();
-    site.shared.locked.lock(site.rt).collect(all, part.tally());
+    collect(site.rt, &site.server, all, part.tally());
 }
 
 /// Those who work, at most so many at once, and the tallies of those who have ended: together they have all parts.
@@ -159,9 +174,9 @@ impl<A: Allocator + Copy + Send + Sync, L: Ledger + Send + Sync> Workers<A, L> {
     }
 
     /// Waits, where all places are taken, until a worker has ended.
-    fn make_room<G: Gate, B: ServerName + Send + Sync, R: Threads + Wait + Clock + Sync>(
+    fn make_room<G: Gate, S: Serves<A, L, R> + Drop + Sync, R: Threads + Wait + Clock + Sync>(
         &mut self,
-        site: &Site<'_, A, G, B, L, R>,
+        site: &Site<'_, A, G, S, R>,
     )
         requires { 0 < self.old.0 }
         ensures room { self.new.1 < self.new.0 }
@@ -181,11 +196,11 @@ impl<A: Allocator + Copy + Send + Sync, L: Ledger + Send + Sync> Workers<A, L> {
         E,
         G: Gate + Sync,
         C: Connection + Send + 's,
-        B: ServerName + Send + Sync + 's,
+        S: Serves<A, L, R> + Drop + Sync + 's,
         R: Threads + Wait + Clock + Sync,
     >(
         &mut self,
-        site: &'s Site<'a, A, G, B, L, R>,
+        site: &'s Site<'a, A, G, S, R>,
         scope: &'s Scope<'s, E>,
         connection: C,
         number: usize,
@@ -200,8 +215,8 @@ impl<A: Allocator + Copy + Send + Sync, L: Ledger + Send + Sync> Workers<A, L> {
         let place = &site.places[number];
         place.take();
         let part = self.all.split();
-        let (rt, gate, shared) = (site.rt, site.gate, &site.shared);
-        let first = scope.spawn(move || work_at(rt, gate, shared, place, connection, part));
+        let (rt, gate, server) = (site.rt, site.gate, &site.server);
+        let first = scope.spawn(move || work_at(rt, gate, server, place, connection, part));
         let last = match first {
             Err(refused) => {
                 if join_ended(site, &mut self.all, &mut self.running) {
@@ -237,11 +252,11 @@ impl<A: Allocator + Copy + Send + Sync, L: Ledger + Send + Sync> Workers<A, L> {
         G: Gate + Sync,
         C: Connection + Send + 's,
         I: Iterator<Item = C> + Drop,
-        B: ServerName + Send + Sync + 's,
+        S: Serves<A, L, R> + Drop + Sync + 's,
         R: Threads + Wait + Clock + Sync,
     >(
         &mut self,
-        site: &'s Site<'a, A, G, B, L, R>,
+        site: &'s Site<'a, A, G, S, R>,
         scope: &'s Scope<'s, E>,
         connections: I,
         most: u32,
@@ -272,9 +287,9 @@ impl<A: Allocator + Copy + Send + Sync, L: Ledger + Send + Sync> Workers<A, L> {
     }
 
     /// Waits for the workers, and puts their tallies together.
-    fn gather<G: Gate, B: ServerName + Send + Sync, R: Threads + Wait + Sync>(
+    fn gather<G: Gate, S: Serves<A, L, R> + Drop + Sync, R: Threads + Wait + Sync>(
         self,
-        site: &Site<'_, A, G, B, L, R>,
+        site: &Site<'_, A, G, S, R>,
     ) -> Tally<L>
         ensures { result.share.parts ≡ L.parts }
     {
@@ -299,29 +314,20 @@ pub(crate) struct Shift<
     'a,
     A: Allocator,
     G,
-    B: ServerName,
+    S: Drop,
     L: Ledger,
     R: Wait,
     C,
     I: Iterator<Item = C> + Drop,
 > {
     pub(crate) workers: Workers<A, L>,
-    pub(crate) site: &'e Site<'a, A, G, B, L, R>,
+    pub(crate) site: &'e Site<'a, A, G, S, R>,
     pub(crate) connections: I,
     pub(crate) most: u32,
 }
 
-impl<
-    'e,
-    'a,
-    A: Allocator,
-    G,
-    B: ServerName,
-    L: Ledger,
-    R: Wait,
-    C,
-    I: Iterator<Item = C> + Drop,
-> Model for Shift<'e, 'a, A, G, B, L, R, C, I> {
+impl<'e, 'a, A: Allocator, G, S: Drop, L: Ledger, R: Wait, C, I: Iterator<Item = C> + Drop> Model
+    for Shift<'e, 'a, A, G, S, L, R, C, I> {
     ghost use Rattle.std.specs.Iterator.{IsFinite};
 
     ghost Value = { Unit {0} };
@@ -337,11 +343,11 @@ impl<
     A: Allocator + Copy + Send + Sync,
     G: Gate + Sync,
     C: Connection + Send,
-    B: ServerName + Send + Sync,
+    S: Serves<A, L, R> + Drop + Sync,
     L: Ledger + Send + Sync,
     R: Threads + Wait + Clock + Sync,
     I: Iterator<Item = C> + Drop,
-> Shift<'e, 'a, A, G, B, L, R, C, I> {
+> Shift<'e, 'a, A, G, S, L, R, C, I> {
     /// Starts a worker for each connection, of at most so many, and waits for them all. The number is that of the
     /// connections for which no thread could be started.
     fn run<'s, E>(self, scope: &'s Scope<'s, E>) -> (Tally<L>, usize)
@@ -350,7 +356,7 @@ impl<
         'a: 's,
         A: 's,
         C: 's,
-        B: 's,
+        S: 's,
         L: 's,
         ensures { result.0.share.parts ≡ L.parts }
     {

@@ -5,7 +5,7 @@ use Rattle.server_workers.proofs.worker.converse.Given as goal
 
 abbrev pub invariant-loop : goal.invariant-loop
 invariant-loop g l =
-    Conversing g.B.ServerName.pinned (record { told = g.C.Connection.told l.initial.connection; answered = l.initial.tally.answered; waiting = [] })
+    Conversing g.S.Serves.server (record { told = g.C.Connection.told l.initial.connection; answered = l.initial.tally.answered; waiting = [] })
     (record { told = g.C.Connection.told l.connection; answered = l.tally.answered; waiting = l.frames })
     × (l.tally.share.parts ≡ l.initial.tally.share.parts)
     × (0 < vec_len l.buffer)
