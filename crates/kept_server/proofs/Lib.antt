@@ -1,0 +1,3 @@
+mod Pushes
+mod Sent
+mod Syncs

@@ -1,0 +1,367 @@
+//! The server, and what it answers to a request.
+
+ghost use Rattle.std.specs.Prelude.{◌≡◌, ◌+◌, ◌<◌, [], true, false, IfSome, IfNone};
+ghost use Rattle.wire.specs.Frame.{request_of};
+ghost use Rattle.consistency_server.specs.History.{call_of, is_carried_out};
+ghost use Rattle.wire.specs.declared.kinds.Status.TheVariants as status;
+ghost use Rattle.server_workers.specs.Counting.{count_of};
+ghost use Rattle.server_workers.specs.Conversation.{RepliesToCall, RepliesToPut, RepliesToGet, RepliesToSync};
+ghost use Rattle.server_workers.specs.Conversation.{RepliesToBody, count_in, on_storage};
+
+use crate::blocks::Blocks;
+use crate::key::ServerKey;
+use crate::order::Order;
+use crate::state::{Next, State};
+use block_file::{BlockError, BlockFile};
+use consistency_server::{Answer, Call, CallKind, Ordered, Signer, Verification, signer_of};
+use layout::{Digest, let_go};
+use lms_sign::PublicKey;
+use record_log::{Record, RecordLog};
+use server_workers::{Counter, Gate, ReplyBody, SeenKey, Serves, Tally, certifier, see, seen_for};
+use std::alloc::Allocator;
+use std::sync::atomic::{AtomicU64, Ordering};
+use std::sync::ledger::{Ledger, Share};
+use std::sync::{Condvar, Mutex, Wait};
+use storage::Storage;
+use wire::{RequestKind, Status, request_of};
+
+/// The order under its lock, the log under another, the blocks under a third, and the number of the last call at the
+/// gate. Whoever writes the log has taken it out, and holds no lock meanwhile.
+#[derive(Drop)]
+pub(crate) struct KeptServer<S: Storage, T: Storage, A: Allocator, B: ServerKey, L: Ledger> {
+    alloc: A,
+    order: Mutex<Order<A, B>>,
+    state: Mutex<State<S, L>>,
+    changed: Condvar,
+    blocks: Mutex<Blocks<T, A>>,
+    last_call: AtomicU64,
+}
+
+/// What is left of a server: the order, the log and the blocks, and whether it stopped before.
+#[derive(Drop)]
+pub(crate) struct Closed<S: Storage, T: Storage, A: Allocator> {
+    pub(crate) ordered: Ordered<A>,
+    pub(crate) log: Option<RecordLog<S>>,
+    pub(crate) blocks: BlockFile<T, A>,
+    pub(crate) stopped: bool,
+}
+
+/// This answer doesn't wait: the call wasn't carried out.
+fn is_carried_out(status: Status) -> bool
+    ensures { result ≡ is_carried_out status }
+{
+    !matches!(status, Status::Busy | Status::Memory)
+}
+
+/// Appends records to a log that can be written.
+fn append<S: Storage, A: Allocator>(
+    alloc: A,
+    log: &mut RecordLog<S>,
+    records: &[Record<A>],
+) -> bool {
+    log.usable() && log.append_all(alloc, records).is_ok()
+}
+
+impl<S: Storage + Drop, T: Storage + Drop, A: Allocator + Copy, B: ServerKey, L: Ledger> KeptServer<
+    S,
+    T,
+    A,
+    B,
+    L,
+> {
+    /// Over an order and its log, and the blocks.
+    pub(crate) fn new(
+        alloc: A,
+        ordered: Ordered<A>,
+        log: RecordLog<S>,
+        blocks: BlockFile<T, A>,
+        counter: Counter<L>,
+    ) -> KeptServer<S, T, A, B, L>
+        requires { ordered.pinned ≡ B.pinned }
+    {
+        KeptServer {
+            alloc,
+            order: Mutex::new(Order::new(alloc, ordered)),
+            state: Mutex::new(State::new(log, counter)),
+            changed: Condvar::new(),
+            blocks: Mutex::new(Blocks::new(blocks)),
+            last_call: AtomicU64::new(0),
+        }
+    }
+
+    /// When all workers have ended.
+    pub(crate) fn close(self) -> Closed<S, T, A>
+        ensures { result.ordered.pinned ≡ B.pinned }
+    {
+        let KeptServer {
+            alloc: _,
+            order,
+            state,
+            changed: _,
+            blocks,
+            last_call: _,
+        } = self;
+        let ordered = order.into_inner().into_ordered();
+        let state = state.into_inner();
+        let stopped = state.has_stopped();
+        Closed {
+            ordered,
+            log: state.into_log(),
+            blocks: blocks.into_inner().into_file(),
+            stopped,
+        }
+    }
+
+    /// The reply to the body of a request's frame. None where the server has stopped, or memory ran out for a block.
+    fn reply<G: Gate, R: Wait>(
+        &self,
+        rt: &R,
+        gate: &G,
+        tally: &mut Tally<L>,
+        seen: &mut Option<SeenKey>,
+        body: &[u8],
+    ) -> Option<ReplyBody<'_, A>>
+        requires { 0 < tally.old.share.parts }
+        ensures replies { IfSome result (λ reply. RepliesToBody (on_storage B.pinned) (request_of body.now) reply) }
+        ensures counted { IfSome result (λ reply.
+            tally.new.answered ≡ tally.old.answered + count_in (request_of body.now) reply.status) }
+        ensures stopped { IfNone result (tally.new.answered ≡ tally.old.answered) }
+        ensures parts { tally.new.share.parts ≡ tally.old.share.parts }
+    {
+        let Some((kind, payload)) = request_of(body) else {
+            return Some(ReplyBody::bare(self.alloc, Status::Form));
+        };
+        match kind {
+            RequestKind::Update => self.call(rt, gate, tally, seen, CallKind::Update, payload),
+            RequestKind::Commit => self.call(rt, gate, tally, seen, CallKind::Commit, payload),
+            RequestKind::Put => self.put(rt, gate, payload),
+            RequestKind::Get => self.get(rt, gate, payload),
+            RequestKind::Sync => self.sync(rt, gate, payload),
+        }
+    }
+
+    /// Carries out a call under the lock of the order, and answers once all calls up to it are in the log, synced.
+    /// Before, its signature is verified, and its text copied.
+    fn call<G: Gate, R: Wait>(
+        &self,
+        rt: &R,
+        gate: &G,
+        tally: &mut Tally<L>,
+        seen: &mut Option<SeenKey>,
+        kind: CallKind,
+        text: &[u8],
+    ) -> Option<ReplyBody<'_, A>>
+        requires { 0 < tally.old.share.parts }
+        ensures replies { IfSome result (λ reply. RepliesToCall B.pinned (call_of kind text.now) reply) }
+        ensures counted { IfSome result (λ reply. tally.new.answered ≡ tally.old.answered + count_of reply.status) }
+        ensures stopped { IfNone result (tally.new.answered ≡ tally.old.answered) }
+        ensures parts { tally.new.share.parts ≡ tally.old.share.parts }
+    {
+        gate.pass(
+            self.last_call
+                .fetch_add(1, Ordering::SeqCst)
+                .wrapping_add(1),
+        );
+        let Ok(signer) = signer_of(self.alloc, kind, text) else {
+            return Some(ReplyBody::bare(self.alloc, Status::Memory));
+        };
+        // A copy is handed down, since the user is asked for afterwards.
+        let copy = signer;
+        let verified = self.verification(rt, *seen, copy, text);
+        let Ok(owned) = Vec::from_slice(self.alloc, text) else {
+            return Some(ReplyBody::bare(self.alloc, Status::Memory));
+        };
+        let call = Call::new(kind, owned);
+        let user = certifier(signer);
+        let known = verified.as_ref();
+        let (answer, later, count) = self.order.lock(rt).call(call, known, user);
+        see(seen, later);
+        self.send(rt, gate, tally, answer, count)
+    }
+
+    /// The answer to a call, once so many calls are in the log, synced. One that wasn't carried out, for want of
+    /// memory, waits for nothing.
+    fn send<G: Gate, R: Wait>(
+        &self,
+        rt: &R,
+        gate: &G,
+        tally: &mut Tally<L>,
+        answer: Answer<A>,
+        count: usize,
+    ) -> Option<ReplyBody<'_, A>>
+        requires { 0 < tally.old.share.parts }
+        ensures carried_out { IfSome result (λ reply. is_carried_out answer.status ≡ true → reply ≡ answer) }
+        ensures memory { IfSome result (λ reply. is_carried_out answer.status ≡ false
+            → reply ≡ record { status = status.Memory; payload = [] }) }
+        ensures counted { IfSome result (λ reply. tally.new.answered ≡ tally.old.answered + count_of reply.status) }
+        ensures stopped { IfNone result (tally.new.answered ≡ tally.old.answered) }
+        ensures parts { tally.new.share.parts ≡ tally.old.share.parts }
+    {
+        if !is_carried_out(answer.status()) {
+            return Some(ReplyBody::bare(self.alloc, Status::Memory));
+        }
+        if !self.is_kept(rt, gate, count) {
+            return None;
+        }
+        if !self.state.lock(rt).count(tally) {
+            return None;
+        }
+        Some(ReplyBody::of(answer))
+    }
+
+    /// Waits until so many calls are in the log, synced, and writes it where nobody else does. False where the server
+    /// has stopped.
+    fn is_kept<G: Gate, R: Wait>(&self, rt: &R, gate: &G, count: usize) -> bool {
+        for _ in rt.forever() {
+            match self.next(rt, count) {
+                Next::GoesOut => return true,
+                Next::Stops => return false,
+                Next::Writes(log) => self.write(rt, gate, log),
+            }
+        }
+        unreachable!()
+    }
+
+    /// What there is to do for an answer after so many calls, as soon as nobody writes the log or they are synced.
+    fn next<R: Wait>(&self, rt: &R, count: usize) -> Next<S> {
+        let mut state = self
+            .changed
+            .wait_while(rt, self.state.lock(rt), |state| state.is_writing(count));
+        state.next(count)
+    }
+
+    /// Writes all calls that aren't in the log yet, after the blocks, and wakes all who wait.
+    fn write<G: Gate, R: Wait>(&self, rt: &R, gate: &G, log: RecordLog<S>) {
+        let mut log = log;
+        let (records, count) = self.order.lock(rt).take();
+        let blocks = self.blocks.lock(rt).sync().is_ok();
+        if blocks && append(self.alloc, &mut log, &records) {
+            self.state.lock(rt).put_back(log, count);
+            self.changed.notify_all();
+        } else {
+            self.stop(rt, gate);
+            self.state.lock(rt).lay_down(log);
+        }
+    }
+
+    /// No request is replied to any more.
+    fn stop<G: Gate, R: Wait>(&self, rt: &R, gate: &G) {
+        let first = self.state.lock(rt).stop();
+        self.changed.notify_all();
+        if first {
+            gate.stopped();
+        }
+    }
+
+    /// The signature of a call's text, verified without the lock. None where there is none, or the signer has no key:
+    /// what isn't known is found out under the lock.
+    fn verification<'t, R: Wait>(
+        &self,
+        rt: &R,
+        seen: Option<SeenKey>,
+        signer: Option<Signer>,
+        text: &'t [u8],
+    ) -> Option<Verification<'t>> {
+        let key = self.key_of(rt, seen, signer?)?;
+        Some(Verification::new(key, text))
+    }
+
+    /// The key by which a signer is judged: the one that was seen last where it is this one, else the lock is taken
+    /// for a look at it.
+    fn key_of<R: Wait>(&self, rt: &R, seen: Option<SeenKey>, signer: Signer) -> Option<PublicKey> {
+        // A copy is handed down, since the lock may be asked next.
+        let copy = signer;
+        match seen_for(seen, copy) {
+            Some(key) => Some(key),
+            None => self.order.lock(rt).key_of(signer),
+        }
+    }
+
+    /// Stores a block. Where the blocks have no room left, that is told as want of memory.
+    fn put<G: Gate, R: Wait>(&self, rt: &R, gate: &G, block: &[u8]) -> Option<ReplyBody<'_, A>>
+        ensures { IfSome result (λ reply. RepliesToPut block.now reply) }
+    {
+        let put = self.blocks.lock(rt).put(block);
+        match put {
+            Ok(digest) => match Vec::from_slice(self.alloc, digest.as_bytes()) {
+                Ok(digest) => Some(ReplyBody::ok(digest)),
+                Err(_) => Some(ReplyBody::bare(self.alloc, Status::Memory)),
+            },
+            Err(BlockError::TooLarge) => Some(ReplyBody::bare(self.alloc, Status::TooLarge)),
+            Err(BlockError::Full) => {
+                gate.block_refused();
+                Some(ReplyBody::bare(self.alloc, Status::Memory))
+            }
+            Err(BlockError::Memory) => Some(ReplyBody::bare(self.alloc, Status::Memory)),
+            Err(BlockError::Device) => {
+                self.stop(rt, gate);
+                None
+            }
+        }
+    }
+
+    /// Finds the block of a digest, and hashes it.
+    fn get<G: Gate, R: Wait>(&self, rt: &R, gate: &G, digest: &[u8]) -> Option<ReplyBody<'_, A>>
+        ensures { IfSome result (λ reply. RepliesToGet digest.now reply) }
+    {
+        let Ok(digest) = <[u8; 32]>::try_from(digest) else {
+            return Some(ReplyBody::bare(self.alloc, Status::Form));
+        };
+        let wanted = Digest::from_bytes(digest);
+        let found = self.blocks.lock(rt).fetch(&wanted);
+        match found {
+            Ok(Some(block)) => Some(ReplyBody::ok(block)),
+            Ok(None) => Some(ReplyBody::bare(self.alloc, Status::Absent)),
+            Err(BlockError::Device) => {
+                self.stop(rt, gate);
+                None
+            }
+            // What was asked for can't be told, and no reply says so.
+            Err(_) => None,
+        }
+    }
+
+    /// Syncs the blocks.
+    fn sync<G: Gate, R: Wait>(&self, rt: &R, gate: &G, payload: &[u8]) -> Option<ReplyBody<'_, A>>
+        ensures { IfSome result (λ reply. RepliesToSync true payload.now reply) }
+    {
+        let reply = self.blocks.lock(rt).reply_to_sync(self.alloc, payload);
+        if reply.is_none() {
+            self.stop(rt, gate);
+        }
+        reply
+    }
+}
+
+/// It keeps all on storage, and stops where that fails.
+impl<
+    S: Storage + Drop,
+    T: Storage + Drop,
+    A: Allocator + Copy,
+    B: ServerKey,
+    L: Ledger,
+    R: Wait,
+> Serves<A, L, R> for KeptServer<S, T, A, B, L> {
+    ghost use Rattle.server_workers.specs.Conversation.{on_storage};
+
+    ghost server = { on_storage B.pinned };
+
+    fn alloc(&self) -> A {
+        self.alloc
+    }
+
+    fn reply_to<G: Gate>(
+        &self,
+        rt: &R,
+        gate: &G,
+        tally: &mut Tally<L>,
+        seen: &mut Option<SeenKey>,
+        body: &[u8],
+    ) -> Option<ReplyBody<'_, A>> {
+        self.reply(rt, gate, tally, seen, body)
+    }
+
+    fn audit(&self, rt: &R, share: &mut Share<L>) {
+        self.state.lock(rt).audit(share);
+    }
+}
