@@ -1,24 +1,31 @@
 //! The server of a file system: it keeps the one order of operations and the blocks, and serves its clients over TCP.
 #![tactic(auto)]
 
+mod files;
+mod halt;
+mod keep;
+
+use crate::files::{lock_file, open_present};
+use crate::halt::Halt;
+use crate::keep::{KeptFiles, open_kept};
 use block_store::Store;
 use clap::error::ErrorKind;
 use clap::{Arg, ArgAction, ArgMatches, Command, value_parser};
+use kept_server::serve_kept;
 use layout::{Memory, beside, let_go};
 use lms_sign::{KEY_SIZE, PublicKey};
 use server_workers::{Accepted, Gate, Limits, Served, Watch, serve_within};
 use std::alloc::{AllocError, Global};
-use std::env;
-use std::fs::{self, File, OpenOptions, TryLockError};
+use std::fs::{File, OpenOptions};
 use std::io::{self, Read};
 use std::net::{Net, TcpListener, TcpStream};
-use std::os::unix::fs::MetadataExt;
 use std::process::ExitCode;
 use std::rt::{Files, Runtime};
-use std::sync::Wait;
 use std::sync::atomic::{AtomicBool, Ordering};
+use std::sync::{Arc, Wait};
 use std::thread::Threads;
 use std::time::Clock;
+use std::{env, thread};
 use thiserror::Error;
 
 /// The version of the program.
@@ -26,6 +33,9 @@ const VERSION: &str = "0.1.0";
 
 /// The status where the words are at fault.
 const WORDS: u8 = 5;
+
+/// The status of a fault past the words.
+const FAILED: u8 = 1;
 
 /// The most connections that can be served at once: each has a thread, and a place.
 const AT_ONCE_MOST: u32 = 4096;
@@ -47,14 +57,6 @@ enum Fault {
     Address(io::Error),
     #[error("the file of the log: {0}")]
     LogFile(io::Error),
-    #[error("the file of the log is a symbolic link, which isn't followed")]
-    LogLink,
-    #[error("the file of the log isn't a regular file")]
-    LogKind,
-    #[error("the file of the log was replaced by another one while it was opened")]
-    LogReplaced,
-    #[error("the file of the log is locked: another server writes it")]
-    LogLocked,
     #[error("the file of the log isn't empty, and is left as it is: move it away, or name another one")]
     LogUsed,
     #[error("the next connection: {0}")]
@@ -65,8 +67,11 @@ enum Fault {
 
 /// What the help says at its end.
 const RESTART: &str =
-    "It keeps operations and blocks in memory alone, and reads no log back. So a server that is \
-    started again begins anew: clients of the one before can't go on with it, and need folders of their own for it.
+    "With --keep, operations and blocks are kept in the folder: an answer goes out once what it tells is on the disk, \
+    and a server that is started again with this folder goes on where the one before was.
+
+With --log, they are in memory alone, and no log is read back. So a server that is started again begins anew: \
+    clients of the one before can't go on with it, and need folders of their own for it.
 
 Statuses:
   0  All connections have ended, and the log is written
@@ -102,12 +107,21 @@ fn number<'a>(
 fn locations<'a>(alloc: Global, command: Command<'a>) -> Result<Command<'a>, AllocError> {
     let listen = "Where it listens: an address and a port, or port 0 for a free one";
     let key = "The file of user 0's public key, of 56 bytes";
+    let keep =
+        "The folder in which operations and blocks are kept, in its files log and blocks, which are made where it has neither";
     let log =
         "The file of the log, which is made; one that has bytes is refused, and so is what isn't a regular file";
+    let keep = option(alloc, "keep", "DIR", keep)
+        .required(false)
+        .conflicts_with("log")?;
+    let log = option(alloc, "log", "FILE", log)
+        .required(false)
+        .required_unless_present("keep")?;
     command
         .arg(option(alloc, "listen", "ADDR", listen))?
         .arg(option(alloc, "super", "FILE", key))?
-        .arg(option(alloc, "log", "FILE", log))
+        .arg(keep)?
+        .arg(log)
 }
 
 /// The options on connections.
@@ -147,9 +161,9 @@ fn given_words<R: Runtime + AllocGlobal>(rt: &R) -> io::Result<Vec<String>> {
 }
 
 /// Tells what hinders the words from being read.
-fn refuse_words<R: Runtime>(rt: &R, why: &str) -> anyhow::Result<ExitCode> {
+fn refuse_words<R: Runtime>(rt: &R, why: &str) -> anyhow::Result<u8> {
     let _ = eprintln!(rt; "{why}");
-    Ok(ExitCode::from(WORDS))
+    Ok(WORDS)
 }
 
 /// The public key in a file of 56 bytes.
@@ -164,69 +178,38 @@ fn read_key(rt: &impl Files, name: &str) -> anyhow::Result<PublicKey> {
 }
 
 /// Tells what the words lack, or the help that they ask for.
-fn refuse<R: Runtime>(rt: &R, fault: &clap::Error) -> anyhow::Result<ExitCode> {
+fn refuse<R: Runtime>(rt: &R, fault: &clap::Error) -> anyhow::Result<u8> {
     if fault.kind() == ErrorKind::OutOfMemory {
         return refuse_words(rt, MEMORY);
     }
     let printed = fault.print(rt);
     if fault.exit_code() != 0 {
-        return Ok(ExitCode::from(WORDS));
+        return Ok(WORDS);
     }
     printed?;
-    Ok(ExitCode::SUCCESS)
+    Ok(0)
 }
 
 /// The file of the log, in which nothing stands and which no other server writes: a new one, or one that is empty. No
 /// byte of a file is ever destroyed.
 fn open_log<R: Eprint + Files<File = File>>(rt: &R, name: &str) -> anyhow::Result<File> {
+    let mut appending = OpenOptions::new();
+    appending.append(true);
     let file = match OpenOptions::new()
         .append(true)
         .create_new(true)
         .open(rt, name)
     {
-        Err(fault) if fault.kind() == io::ErrorKind::AlreadyExists => open_present(rt, name)?,
+        Err(fault) if fault.kind() == io::ErrorKind::AlreadyExists => {
+            open_present(rt, &appending, name, "log")?
+        }
         made => made.map_err(Fault::LogFile)?,
     };
-    lock_log(rt, &file)?;
+    lock_file(rt, &file, "log")?;
     if file.metadata().map_err(Fault::LogFile)?.len() != 0 {
         return Err(Fault::LogUsed.into());
     }
     Ok(file)
-}
-
-/// The regular file that is there under a name, and no other one that a link leads to.
-fn open_present<R: Files<File = File>>(rt: &R, name: &str) -> anyhow::Result<File> {
-    let found = fs::symlink_metadata(rt, name).map_err(Fault::LogFile)?;
-    if found.is_symlink() {
-        return Err(Fault::LogLink.into());
-    }
-    if !found.is_file() {
-        return Err(Fault::LogKind.into());
-    }
-    let file = OpenOptions::new()
-        .append(true)
-        .open(rt, name)
-        .map_err(Fault::LogFile)?;
-    let opened = file.metadata().map_err(Fault::LogFile)?;
-    if opened.dev() != found.dev() || opened.ino() != found.ino() {
-        return Err(Fault::LogReplaced.into());
-    }
-    Ok(file)
-}
-
-/// Locks the file of the log until it is closed. Where the system knows no locks, that is told, and all goes on.
-fn lock_log<R: Eprint>(rt: &R, file: &File) -> Result<(), Fault> {
-    match file.try_lock() {
-        Ok(()) => Ok(()),
-        Err(TryLockError::WouldBlock) => Err(Fault::LogLocked),
-        Err(TryLockError::Error(fault)) if fault.kind() == io::ErrorKind::Unsupported => {
-            let _ = eprintln!(rt;
-                "sundrd: the file of the log can't be locked: no other server may write it"
-            );
-            Ok(())
-        }
-        Err(TryLockError::Error(fault)) => Err(Fault::LogFile(fault)),
-    }
 }
 
 /// Who tells of a listener's faults, on standard error.
@@ -254,14 +237,16 @@ impl<'a, R: Eprint> Watch for Telling<'a, R> {
     }
 }
 
-/// Who holds no call up, and tells on standard error once that blocks have no room left.
+/// Who holds no call up, and tells on standard error once that blocks have no room left, and that the server has stopped:
+/// then the program ends at once.
 #[derive(Drop)]
 struct Entrance<'a, R> {
     rt: &'a R,
+    halt: &'a Halt,
     told: AtomicBool,
 }
 
-impl<'a, R: Eprint> Gate for Entrance<'a, R> {
+impl<'a, R: Eprint + Wait> Gate for Entrance<'a, R> {
     fn pass(&self, _call: u64) {}
 
     fn block_refused(&self) {
@@ -272,10 +257,18 @@ impl<'a, R: Eprint> Gate for Entrance<'a, R> {
             );
         }
     }
+
+    fn stopped(&self) {
+        let rt = self.rt;
+        let _ = eprintln!(rt;
+            "sundrd: the folder can't be written or read any more, and so the server ends"
+        );
+        self.halt.tell(rt, FAILED);
+    }
 }
 
 /// What a server begins with: its listener, how many connections it serves, how many at once, for how many seconds one
-/// may say nothing, how many bytes blocks may take, user 0's key, and the file of its log.
+/// may say nothing, how many bytes blocks may take, user 0's key, and where it keeps what it has.
 #[derive(Drop)]
 struct Begun {
     listener: TcpListener,
@@ -284,10 +277,30 @@ struct Begun {
     idle: u32,
     room: u64,
     pinned: PublicKey,
-    log: File,
+    place: Place,
 }
 
-/// Reads user 0's key, listens where the words say, makes the file of the log, and prints where it listens.
+/// Where a server keeps what it has: in memory, beside a log that is written; or in a folder.
+#[derive(Drop)]
+enum Place {
+    Memory(File),
+    Folder(KeptFiles),
+}
+
+/// Opens what the words name: the folder with what was kept, or the file of the log.
+fn open_place<R: AllocGlobal + Eprint + Files<File = File>>(
+    rt: &R,
+    matches: &ArgMatches,
+    pinned: PublicKey,
+    room: u64,
+) -> anyhow::Result<Place> {
+    match matches.get_str("keep") {
+        Some(folder) => Ok(Place::Folder(open_kept(rt, folder, pinned, room)?)),
+        None => Ok(Place::Memory(open_log(rt, matches.get_str("log").unwrap_or(""))?)),
+    }
+}
+
+/// Reads user 0's key, listens where the words say, opens what is kept, and prints where it listens.
 fn begin<
     R: Runtime + AllocGlobal + Files<File = File> + Net<Listener = TcpListener, Stream = TcpStream>,
 >(rt: &R, matches: &ArgMatches) -> anyhow::Result<Begun> {
@@ -299,7 +312,7 @@ fn begin<
     // The log is made only once the port is ours.
     let address = matches.get_str("listen").unwrap_or("");
     let listener = TcpListener::bind(rt, address).map_err(Fault::Address)?;
-    let log = open_log(rt, matches.get_str("log").unwrap_or(""))?;
+    let place = open_place(rt, matches, pinned, room)?;
     println!(rt; "listening {}", listener.local_addr()?)?;
     Ok(Begun {
         listener,
@@ -308,7 +321,7 @@ fn begin<
         idle,
         room,
         pinned,
-        log,
+        place,
     })
 }
 
@@ -321,31 +334,38 @@ fn tell_unserved<R: Eprint>(rt: &R, unserved: usize) {
     }
 }
 
-/// Serves these connections. Where memory runs out before the first one is taken, they are closed.
-fn serve_these<'a, R: AllocGlobal + Eprint + Clock + Threads + Wait + Sync>(
+/// Serves these connections out of memory: whether the log was written to its end. Where memory runs out before the
+/// first one is taken, they are closed.
+fn serve_in_memory<'a, R: AllocGlobal + Eprint + Clock + Threads + Wait + Sync>(
     rt: &'a R,
+    entrance: &Entrance<'a, R>,
     connections: Accepted<'a, R, Telling<'a, R>>,
     limits: Limits,
-    store: &Store<Global>,
+    room: u64,
     pinned: PublicKey,
     log: File,
-) -> Result<Served<File>, Memory> {
+) -> Result<bool, Memory> {
     let alloc = rt.alloc();
-    let entrance = Entrance {
-        rt,
-        told: AtomicBool::new(false),
-    };
+    let (connections, store) = beside(connections, Store::with_room(alloc, room))?;
     match serve_within(
         rt,
         alloc,
-        &entrance,
+        entrance,
         connections,
         limits,
-        store,
+        &store,
         pinned,
         log,
     ) {
-        Ok(served) => Ok(served),
+        Ok(served) => {
+            let Served {
+                flushed,
+                unserved,
+                ..
+            } = served;
+            tell_unserved(rt, unserved);
+            Ok(flushed)
+        }
         Err(unbegun) => {
             let_go(unbegun);
             Err(Memory)
@@ -353,49 +373,69 @@ fn serve_these<'a, R: AllocGlobal + Eprint + Clock + Threads + Wait + Sync>(
     }
 }
 
+/// Serves these connections out of a folder: whether the server didn't stop before they ended.
+fn serve_from_folder<'a, R: AllocGlobal + Eprint + Clock + Threads + Wait + Sync>(
+    rt: &'a R,
+    entrance: &Entrance<'a, R>,
+    connections: Accepted<'a, R, Telling<'a, R>>,
+    limits: Limits,
+    files: KeptFiles,
+) -> Result<bool, Memory> {
+    let served = serve_kept(rt, rt.alloc(), entrance, connections, limits, files)?;
+    let (stopped, unserved) = (served.stopped, served.unserved);
+    let_go(served);
+    tell_unserved(rt, unserved);
+    Ok(!stopped)
+}
+
 /// Serves the connections that come, up to a fault after which the listener can't listen, which is put there: whether
-/// the log was written to its end.
+/// all that was to be written was written.
 fn serve_all<R: AllocGlobal + Eprint + Clock + Threads + Wait + Sync>(
     rt: &R,
+    halt: &Halt,
     begun: Begun,
     fault: &mut Option<io::Error>,
 ) -> Result<bool, Memory> {
-    let alloc = rt.alloc();
-    let room = begun.room;
-    let (begun, store) = beside(begun, Store::with_room(alloc, room))?;
     let Begun {
         listener,
         most,
         at_once,
         idle,
-        room: _,
+        room,
         pinned,
-        log,
+        place,
     } = begun;
     let limits = Limits { most, at_once };
+    let entrance = Entrance {
+        rt,
+        halt,
+        told: AtomicBool::new(false),
+    };
     let connections = Accepted::new(rt, &listener, most, fault).watched(
         idle as u64,
         Telling { rt },
     );
-    let served = serve_these(rt, connections, limits, &store, pinned, log)?;
-    let (flushed, unserved) = (served.flushed, served.unserved);
-    let_go(served);
-    tell_unserved(rt, unserved);
-    Ok(flushed)
+    match place {
+        Place::Memory(log) => {
+            serve_in_memory(rt, &entrance, connections, limits, room, pinned, log)
+        }
+        Place::Folder(files) => serve_from_folder(rt, &entrance, connections, limits, files),
+    }
 }
 
 /// Serves the connections that come.
 fn serve_begun<R: AllocGlobal + Eprint + Clock + Threads + Wait + Sync>(
     rt: &R,
+    halt: &Halt,
     begun: Begun,
-) -> anyhow::Result<ExitCode> {
+) -> anyhow::Result<u8> {
     let mut fault = None;
-    if !serve_all(rt, begun, &mut fault)? {
+    if !serve_all(rt, halt, begun, &mut fault)? {
         return Err(Fault::Log.into());
     }
     match fault {
         Some(fault) => Err(Fault::Connection(fault).into()),
-        None => Ok(ExitCode::SUCCESS),
+        None => Ok(0),
     }
 }
 
@@ -409,7 +449,7 @@ fn run<
         + Threads
         + Wait
         + Sync,
->(rt: &R) -> anyhow::Result<ExitCode> {
+>(rt: &R, halt: &Halt) -> anyhow::Result<u8> {
     let words = match given_words(rt) {
         Ok(words) => words,
         Err(fault) if fault.kind() == io::ErrorKind::OutOfMemory => return refuse_words(rt, MEMORY),
@@ -422,7 +462,7 @@ fn run<
         Ok(matches) => {
             let begun = begin(rt, &matches);
             let_go(matches);
-            serve_begun(rt, begun?)
+            serve_begun(rt, halt, begun?)
         }
         Err(fault) => {
             let status = refuse(rt, &fault);
@@ -432,11 +472,39 @@ fn run<
     }
 }
 
-fn main(rt: HostRuntime) -> ExitCode {
-    match run(&rt) {
+/// All that the program does: it tells the status with which it ends.
+fn run_to_end<
+    R: Runtime
+        + AllocGlobal
+        + Files<File = File>
+        + Net<Listener = TcpListener, Stream = TcpStream>
+        + Clock
+        + Threads
+        + Wait
+        + Sync,
+>(rt: &R, halt: &Halt) {
+    let status = match run(rt, halt) {
         Ok(status) => status,
         Err(error) => {
             let _ = eprintln!(rt; "sundrd: {error}");
+            FAILED
+        }
+    };
+    halt.tell(rt, status);
+}
+
+/// All is done in a thread of its own, so that the program can end while connections are still waited for.
+fn main(rt: HostRuntime) -> ExitCode {
+    let Ok(halt) = Arc::new(rt.alloc(), Halt::new()) else {
+        return ExitCode::FAILURE;
+    };
+    let Ok(theirs) = Arc::try_clone(&halt) else {
+        return ExitCode::FAILURE;
+    };
+    match thread::spawn(&rt, move || run_to_end(&rt, &*theirs)) {
+        Ok(_worker) => ExitCode::from(halt.wait(&rt)),
+        Err(_) => {
+            let _ = eprintln!(rt; "sundrd: no thread can be started");
             ExitCode::FAILURE
         }
     }
