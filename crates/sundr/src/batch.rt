@@ -3,18 +3,18 @@
 use crate::admin::{NoChanges, read_changes};
 use crate::folder::{read_blocks, read_content, read_keys};
 use crate::hindrance::Hindrance;
-use crate::reaching::{Reach, Server};
+use crate::reaching::{Contact, Server};
 use crate::standing::read_standing;
 use crate::target::Target;
 use crate::{
-    Beside, Opened, Outcome, OwnClient, OwnSession, WORDS, answer, end, into_target, lock_and_open,
-    own_key_digits, parted, print_with_reason, refuse, session_of, tell, tell_leaves,
+    Beside, Opened, Outcome, OwnClient, OwnSession, WORDS, Work, answer, do_work, end, into_target,
+    lock_and_open, outcome_of, own_key_digits, parted, print_with_reason, refuse, session_of, tell,
+    tell_leaves, tells_cut, told_of,
 };
 use commands::{Answer, Command, Refusal};
-use file_commands::{Line, Wanted, split_words};
+use file_commands::{Line, LineError, SplitError, Wanted, split_words};
 use layout::let_go;
 use std::alloc::{AllocError, Global};
-use std::cell::Cell;
 use std::io::{self, ErrorKind, Input};
 use std::net::{Net, TcpStream};
 use std::thread::Threads;
@@ -35,16 +35,30 @@ pub(crate) fn with_program<'a>(
     Ok(all)
 }
 
+/// What is told beside what came of a line.
+fn beside<H: Net<Stream = TcpStream>>(server: &Server<'_, H>) -> Beside {
+    Beside {
+        reach: server.reach(),
+        leaves: None,
+    }
+}
+
 /// What came of a command, and what is told beside it.
 fn answered<H: Net<Stream = TcpStream>>(server: &Server<'_, H>, answer: Answer<Global>) -> Outcome {
-    let reach = server.reach();
-    Outcome::Answer(
-        answer,
-        Beside {
-            reach,
-            leaves: None,
-        },
-    )
+    let beside = beside(server);
+    Outcome::Answer(told_of(answer, beside.reach), beside)
+}
+
+/// Does what is to be done, for which no file is read before.
+fn work<H: Net<Stream = TcpStream>>(
+    rt: &HostRuntime,
+    server: &Server<'_, H>,
+    line: &Line<'_>,
+    session: &mut OwnSession<'_, H>,
+    work: Work<'_>,
+) -> Result<Outcome, Hindrance> {
+    let told = do_work(rt, server, session, line, work)?;
+    Ok(outcome_of(told, beside(server)))
 }
 
 /// Carries a command out that needs no file.
@@ -114,24 +128,24 @@ fn obey<H: Net<Stream = TcpStream> + Threads + Sync>(
         Wanted::Batch { .. } | Wanted::Renew { .. } => Ok(Outcome::Ended(WORDS)),
         Wanted::Admin(file) => make_changes(rt, server, session, file),
         Wanted::Run(command) => Ok(run(rt, server, session, command)),
+        Wanted::Move { path, to } => work(rt, server, line, session, Work::Move { path, to }),
+        Wanted::PutTree { path, dir } => {
+            work(rt, server, line, session, Work::PutTree { path, dir })
+        }
+        Wanted::GetTree { path, dir } => {
+            work(rt, server, line, session, Work::GetTree { path, dir })
+        }
+        Wanted::Users => work(rt, server, line, session, Work::Users),
         Wanted::Put { path, file } => put(rt, server, session, path, file),
         Wanted::Get { path, file } => get(rt, server, session, path, file),
     }
 }
 
-/// Whether an answer tells that nothing can be sent any more over the connection that its command went over.
-fn tells_cut(answer: &Answer<Global>) -> bool {
-    match answer {
-        Answer::Refused(refusal) => matches!(refusal, Refusal::Cut),
-        _ => false,
-    }
-}
-
-/// Whether what came of a line tells this.
+/// Whether what came of a line tells that nothing can be sent any more over the connection that it went over.
 fn is_cut(outcome: &Outcome) -> bool {
     match outcome {
-        Outcome::Answer(answer, _) => tells_cut(answer),
-        Outcome::Key(_) | Outcome::Status(_) | Outcome::Renewed(_) | Outcome::Ended(_) => false,
+        Outcome::Answer(answer, beside) => tells_cut(answer) || beside.reach.lacks_memory(),
+        _ => false,
     }
 }
 
@@ -140,7 +154,10 @@ pub(crate) fn words_of(rt: &HostRuntime, text: &str) -> Result<Vec<String>, u8> 
     match split_words(rt.alloc(), text) {
         Ok(words) => Ok(words),
         Err(error) => {
-            let _ = eprintln!(rt; "error: {error}");
+            let _ = match error {
+                SplitError::Memory => eprintln!(rt; "{error}"),
+                SplitError::Unclosed => eprintln!(rt; "error: {error}"),
+            };
             Err(WORDS)
         }
     }
@@ -178,7 +195,9 @@ fn carry_out<H: Net<Stream = TcpStream> + Threads + Sync>(
     if words.is_empty() {
         return Ok(Ended::unsent(0));
     }
-    let words = with_program(rt.alloc(), &words)?;
+    let Ok(words) = with_program(rt.alloc(), &words) else {
+        return Ok(Ended::unsent(refuse(rt, &LineError::Memory)?));
+    };
     let wanted = match Wanted::read(rt.alloc(), words.as_slice()) {
         Ok(wanted) => wanted,
         Err(error) => {
@@ -187,6 +206,7 @@ fn carry_out<H: Net<Stream = TcpStream> + Threads + Sync>(
             return Ok(Ended::unsent(status?));
         }
     };
+    server.begin();
     let outcome = obey(rt, server, line, session, &wanted);
     let is_cut = match &outcome {
         Ok(outcome) => is_cut(outcome),
@@ -228,6 +248,22 @@ fn reconnect<'a, H: Net<Stream = TcpStream>>(
     session_of(rt, server.again(), client, kept)
 }
 
+/// Whether memory ran out as a line was read. What comes behind it isn't the next line, then.
+fn is_unread(text: &io::Result<String>) -> bool {
+    match text {
+        Ok(_) => false,
+        Err(fault) => fault.kind() == ErrorKind::OutOfMemory,
+    }
+}
+
+/// Tells that a line wasn't read for want of memory: the status to end with.
+fn tell_unread(rt: &HostRuntime) -> u8 {
+    match refuse(rt, &LineError::Memory) {
+        Ok(status) => status,
+        Err(error) => tell(rt, error),
+    }
+}
+
 /// Carries out a line with its number, from 1 on. A status that isn't 0 is told with it. Where the line can't be read, or
 /// its answer can't be printed, that is told: the status to end with.
 fn carry_out_numbered<H: Net<Stream = TcpStream> + Threads + Sync>(
@@ -237,6 +273,10 @@ fn carry_out_numbered<H: Net<Stream = TcpStream> + Threads + Sync>(
     session: &mut OwnSession<'_, H>,
     (number, text): (usize, io::Result<String>),
 ) -> Result<Ended, u8> {
+    if is_unread(&text) {
+        let_go(text);
+        return Err(tell_unread(rt));
+    }
     match carry_out_read(rt, server, line, session, text) {
         Ok(ended) => {
             if ended.status != 0 {
@@ -289,8 +329,8 @@ pub(crate) fn carry_out_batch<H: Net<Stream = TcpStream> + Threads + Sync>(
 ) -> Result<u8, Hindrance> {
     let keys = read_keys(rt, line.dir, line.user)?;
     let Opened { client, locks } = lock_and_open(rt, host, line, &keys)?;
-    let reach = Cell::new(Reach::Untried);
-    let server = Server::new(host, line.server, &reach);
+    let contact = Contact::new(rt);
+    let server = Server::new(host, line.server, &contact);
     let status = carry_out_all(rt, &server, line, client, stops);
     let_go(locks);
     Ok(status)

@@ -1,7 +1,7 @@
 //! What the file `config` of a user's folder says.
 
 use crate::folder::{open_there, read_first};
-use file_commands::split_words;
+use file_commands::{SplitError, split_words};
 use layout::put_in;
 use std::alloc::{AllocError, Global};
 use std::io::{self, ErrorKind};
@@ -68,7 +68,8 @@ fn address_of(words: Vec<String>) -> Result<Option<String>, ConfigFault> {
 fn address_in(alloc: Global, line: &str) -> Result<Option<String>, ConfigFault> {
     match split_words(alloc, line) {
         Ok(words) => address_of(words),
-        Err(_) => Err(ConfigFault::Line),
+        Err(SplitError::Memory) => Err(ConfigFault::Memory),
+        Err(SplitError::Unclosed) => Err(ConfigFault::Line),
     }
 }
 

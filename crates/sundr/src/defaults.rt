@@ -2,7 +2,7 @@
 
 use crate::config::{ConfigFault, server_of};
 use std::alloc::{AllocError, Global};
-use std::env::{self, VarError};
+use std::env::{self, Env, FillError, VarError};
 use std::io::{self, ErrorKind};
 
 /// An option, and the variable of the environment that stands for it.
@@ -42,11 +42,39 @@ fn gives(word: &str, option: &str) -> bool {
     }
 }
 
-/// What a variable of the environment stands for, unless it is empty.
+/// How much of an entry of the environment is looked at.
+const ENTRY_SIZE: usize = 8192;
+
+/// Whether an entry of the environment is this variable's.
+fn is_of(entry: &[u8], variable: &str) -> bool {
+    match entry.strip_prefix(variable.as_bytes()) {
+        Some(rest) => rest.starts_with(b"="),
+        None => false,
+    }
+}
+
+/// Whether the environment has a variable, by its entries: to look at these takes no memory.
+fn is_present(rt: &HostRuntime, variable: &str) -> bool {
+    let mut entry = [0u8; ENTRY_SIZE];
+    for number in 0..usize::MAX {
+        match rt.var_at(number, &mut entry) {
+            Ok(size) if is_of(&entry[..size], variable) => return true,
+            Ok(_) | Err(FillError::TooLong) => {}
+            Err(FillError::NotPresent) => break,
+        }
+    }
+    false
+}
+
+/// What a variable of the environment stands for, unless it is empty. The system tells that there is none also where it
+/// lacks memory to look for it.
 fn value_of(rt: &HostRuntime, variable: &str) -> io::Result<Option<String>> {
     match env::var(rt, variable) {
         Ok(value) if value.is_empty() => Ok(None),
         Ok(value) => Ok(Some(value)),
+        Err(VarError::NotPresent) if is_present(rt, variable) => {
+            Err(ErrorKind::OutOfMemory.into())
+        }
         Err(VarError::NotPresent) => Ok(None),
         Err(VarError::NotUnicode) => Err(ErrorKind::InvalidData.into()),
         Err(VarError::OutOfMemory) => Err(ErrorKind::OutOfMemory.into()),

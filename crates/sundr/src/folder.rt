@@ -39,6 +39,10 @@ const BLOCKS_SIZE: usize = 6 + MOST_BLOCKS * (34 + MOST_BYTES);
 /// How many bytes a record of a journal has before its text: its gate, its kind, and the text's size.
 const RECORD_HEAD: usize = 6;
 
+/// More bytes than a journal can have: a record for each leaf of all keys, each with more than a certificate or a structure
+/// has.
+const JOURNAL_SIZE: u64 = 1024 * MOST_KEYS as u64 * 20_480;
+
 /// The gate of a record that is there.
 const OPEN: u8 = 1;
 
@@ -452,6 +456,38 @@ fn check_first_ledger(rt: &HostRuntime, folder: &str) -> Result<(), Hindrance> {
     Ok(())
 }
 
+/// Refuses a file that has more bytes than it can have. It isn't read.
+fn check_size(
+    rt: &HostRuntime,
+    folder: &str,
+    file: FolderFile,
+    most: u64,
+    refusal: Refusal,
+) -> Result<(), Hindrance> {
+    let path = path_of(rt.alloc(), folder, file)?;
+    match fs::metadata(rt, &path) {
+        Ok(found) if found.is_file() && found.len() > most => {
+            Err(Hindrance::OfFile(refusal, file, FileFault::TooLong))
+        }
+        _ => Ok(()),
+    }
+}
+
+/// Refuses a folder of so many keys with a ledger or a journal that has more bytes than it can have.
+fn check_sizes(rt: &HostRuntime, folder: &str, count: u8) -> Result<(), Hindrance> {
+    for number in 0..count {
+        let ledger = FolderFile::Ledger(number);
+        check_size(rt, folder, ledger, LEDGER_SIZE as u64, Refusal::Foreign)?;
+    }
+    check_size(
+        rt,
+        folder,
+        FolderFile::Journal,
+        JOURNAL_SIZE,
+        Refusal::Damaged,
+    )
+}
+
 /// Refuses a folder that isn't this user's, or hasn't the files that it had. Nothing is written.
 pub(crate) fn check_folder(
     rt: &HostRuntime,
@@ -460,6 +496,7 @@ pub(crate) fn check_folder(
 ) -> Result<(), Hindrance> {
     check_user(rt, line.dir, line.user)?;
     check_first_ledger(rt, line.dir)?;
+    check_sizes(rt, line.dir, count_of(keys))?;
     check_files(rt, line.dir, count_of(keys), line.moved)
 }
 

@@ -22,6 +22,8 @@ pub(crate) enum FolderFile {
     Journal,
     /// That of the place at which the folder was used last.
     Place,
+    /// The one that is there while a command works.
+    Working,
 }
 
 impl FolderFile {
@@ -34,6 +36,7 @@ impl FolderFile {
             FolderFile::Ledger(_) => "ledger",
             FolderFile::Journal => "journal",
             FolderFile::Place => "place",
+            FolderFile::Working => "working",
         }
     }
 
@@ -153,6 +156,8 @@ pub(crate) enum FileFault {
     Older,
     /// It isn't whole, or is another key's.
     OfOtherSeed,
+    /// It has more bytes than it can have.
+    TooLong,
     /// It has no text of UTF-8.
     NoText,
     /// It has no change.
@@ -163,6 +168,8 @@ pub(crate) enum FileFault {
     NoPlace,
     /// It tells of another place.
     Elsewhere,
+    /// Some of what stands in it was left out.
+    LeftOut,
 }
 
 impl FileFault {
@@ -208,6 +215,8 @@ impl FileFault {
             FileFault::Seedless => SEEDLESS,
             FileFault::Older => OLDER,
             FileFault::OfOtherSeed => OF_OTHER_SEED,
+            FileFault::LeftOut => "some of it was left out, as is told above",
+            FileFault::TooLong => "longer than it can be: not a file that sundr wrote",
         }
     }
 }

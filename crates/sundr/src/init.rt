@@ -76,6 +76,19 @@ impl fmt::Display for Fingerprint {
     }
 }
 
+/// A public key as it is printed, in hexadecimal digits, which takes no memory.
+#[derive(Clone, Copy)]
+pub(crate) struct Digits<'a>(pub(crate) &'a PublicKey);
+
+impl fmt::Display for Digits<'_> {
+    fn fmt<W: fmt::Write>(&self, f: &mut fmt::Formatter<W>) -> fmt::Result {
+        for byte in self.0.as_bytes().iter() {
+            write!(f, "{byte:02x}")?;
+        }
+        Ok(())
+    }
+}
+
 /// What a fault of the system at a file that is made is told as.
 fn unmade(file: FolderFile, fault: &io::Error) -> Hindrance {
     match fault.kind() {
@@ -191,19 +204,6 @@ pub(crate) fn make_file(rt: &HostRuntime, path: &str, bytes: &[u8]) -> io::Resul
     filled
 }
 
-/// Makes a file of a folder, as they are made.
-fn make(rt: &HostRuntime, folder: &str, file: FolderFile, bytes: &[u8]) -> Result<(), Hindrance> {
-    let path = path_of(rt.alloc(), folder, file)?;
-    make_file(rt, &path, bytes).map_err(|fault| unmade(file, &fault))
-}
-
-/// Removes a file that was made.
-pub(crate) fn unmake(rt: &HostRuntime, folder: &str, file: FolderFile) {
-    if let Ok(path) = path_of(rt.alloc(), folder, file) {
-        let _ = fs::remove_file(rt, &path);
-    }
-}
-
 /// Syncs a folder, and the one in which it stands.
 pub(crate) fn sync_folder(rt: &HostRuntime, folder: &str) -> io::Result<()> {
     File::open(rt, folder)?.sync_all()?;
@@ -214,29 +214,46 @@ pub(crate) fn sync_folder(rt: &HostRuntime, folder: &str) -> io::Result<()> {
     File::open(rt, above)?.sync_all()
 }
 
-/// Removes the first files of these, so many.
-fn unmake_first(rt: &HostRuntime, folder: &str, files: &[(FolderFile, &[u8])], count: usize) {
-    for (file, _) in files.iter().take(count) {
-        unmake(rt, folder, *file);
+/// Removes the first files of these, so many. It takes no memory.
+fn unmake(rt: &HostRuntime, paths: &[String], count: usize) {
+    for path in paths.iter().take(count) {
+        let _ = fs::remove_file(rt, path);
     }
 }
 
-/// Makes these files of a folder, and syncs it. Where that can't be done, none of them is left.
-fn make_files(
+/// A file of a folder that is to be made, with the bytes that it gets.
+type Filled<'a> = (FolderFile, &'a [u8]);
+
+/// Where these files of a folder stand.
+fn paths_of(
     rt: &HostRuntime,
     folder: &str,
-    files: &[(FolderFile, &[u8])],
+    files: &[Filled<'_>],
+) -> Result<Vec<String>, Hindrance> {
+    let mut paths = Vec::new(rt.alloc());
+    for (file, _) in files {
+        paths.push(path_of(rt.alloc(), folder, *file)?)?;
+    }
+    Ok(paths)
+}
+
+/// Makes these files of a folder at their paths, and syncs it. Where that can't be done, none of them is left.
+fn make_at(
+    rt: &HostRuntime,
+    folder: &str,
+    files: &[Filled<'_>],
+    paths: &[String],
 ) -> Result<(), Hindrance> {
-    for (count, (file, bytes)) in files.iter().enumerate() {
-        if let Err(hindrance) = make(rt, folder, *file, *bytes) {
-            unmake_first(rt, folder, files, count);
-            return Err(hindrance);
+    for (count, ((file, bytes), path)) in files.iter().zip(paths).enumerate() {
+        if let Err(fault) = make_file(rt, path, bytes) {
+            unmake(rt, paths, count);
+            return Err(unmade(*file, &fault));
         }
     }
     match sync_folder(rt, folder) {
         Ok(()) => Ok(()),
         Err(fault) => {
-            unmake_first(rt, folder, files, files.len());
+            unmake(rt, paths, paths.len());
             Err(no_folder(&fault))
         }
     }
@@ -252,11 +269,12 @@ pub(crate) fn new_ledger(key: &PublicKey) -> [u8; LEDGER_SIZE] {
 /// Makes the file of the folder's place, and then the seed: where it is, all are.
 fn make_last(rt: &HostRuntime, folder: &str, seed: &SeedBytes) -> Result<(), Hindrance> {
     let place = new_place(rt, folder)?;
-    let files: [(FolderFile, &[u8]); 2] = [
+    let files: [Filled<'_>; 2] = [
         (FolderFile::Place, place.as_bytes()),
         (FolderFile::Seed(0), seed),
     ];
-    make_files(rt, folder, &files)
+    let paths = paths_of(rt, folder, &files)?;
+    make_at(rt, folder, &files, &paths)
 }
 
 /// Makes the folder and its files, the seed as the last one.
@@ -270,16 +288,17 @@ fn make_all(
     let user = made.user.get();
     let number = format!(in rt.alloc(); "{user}\n")?;
     let (ledger, journal) = (new_ledger(&made.own), NEW_JOURNAL);
-    let files: [(FolderFile, &[u8]); 4] = [
+    let files: [Filled<'_>; 4] = [
         (FolderFile::SuperKey, made.super_key.as_bytes()),
         (FolderFile::User, number.as_bytes()),
         (FolderFile::Ledger(0), &ledger),
         (FolderFile::Journal, &journal),
     ];
-    make_files(rt, folder, &files)?;
+    let paths = paths_of(rt, folder, &files)?;
+    make_at(rt, folder, &files, &paths)?;
     let last = make_last(rt, folder, seed);
     if last.is_err() {
-        unmake_first(rt, folder, &files, files.len());
+        unmake(rt, &paths, paths.len());
     }
     last
 }
@@ -311,7 +330,7 @@ pub(crate) fn init<H: Threads + Sync>(
 /// Prints what user 0 types to add the user, or user 0's own key, and fingerprints of the own key and of user 0's.
 pub(crate) fn print_made(rt: &HostRuntime, made: &Made) -> anyhow::Result<()> {
     let user = made.user.get();
-    let digits = hex::encode(rt.alloc(), *made.own.as_bytes())?;
+    let digits = Digits(&made.own);
     let (own, super_key) = (Fingerprint::of(&made.own), Fingerprint::of(&made.super_key));
     if user == 0 {
         println!(rt; "{digits}")?;

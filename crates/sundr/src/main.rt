@@ -7,21 +7,28 @@ mod batch;
 mod config;
 mod defaults;
 mod folder;
+mod getting;
 mod hindrance;
 mod init;
+mod pace;
 mod place;
+mod putting;
 mod reaching;
 mod reason;
 mod renewing;
 mod standing;
 mod target;
+mod tree;
+mod users;
+mod working;
 
 use admin::{NoChanges, read_changes};
 use batch::carry_out_batch;
-use client_verify::{Client, ClientError, Keys as KeysOf};
-use commands::{Answer, Command};
+use client_verify::{Client, ClientError, Keys as KeysOf, Phase};
+use commands::{Answer, Command, Refusal};
 use config::ConfigFault;
 use defaults::{add_config, with_defaults};
+use directory::Directory;
 use drawn_key::drawn_key;
 use file_commands::{Line, LineError, NewFolder, Request, Wanted};
 use file_session::{Resumed, Session, refusal_of};
@@ -29,27 +36,31 @@ use folder::{
     Keys, Seed, check_folder, check_ledger, check_user, keep_blocks, keep_leaves, last_signed,
     lock_ledgers, open_device, read_blocks, read_content, read_kept, read_keys, read_seeds,
 };
+use getting::get_tree;
 use hindrance::{FileFault, FolderFile, Hindrance};
 use init::{init, print_made};
 use kept_blocks::{Keeping, KeptBlocks};
 use layout::{User, let_go};
 use leaf_ledger::{Device, FileDevice};
 use lms_sign::{PrivateKey, PublicKey};
-use place::{check_place, tell_place};
-use reaching::{Reach, Server, Stream};
+use place::{Place, check_place, tell_place};
+use putting::put_tree;
+use reaching::{Contact, Reach, Server, Stream};
 use reason::{Reason, reason_of_answer, reason_of_hindrance, reason_of_unmade};
 use renewing::{Renewed, print_renewed, renew, tell_next};
 use standing::{Standing, few_leaves, read_standing};
 use std::alloc::Global;
-use std::cell::Cell;
 use std::env;
 use std::fs::File;
-use std::io::{self, ErrorKind};
+use std::io::{self, ErrorKind, IsTerminal};
 use std::net::{Net, TcpStream};
 use std::process::ExitCode;
 use std::thread::Threads;
 use target::Target;
 use transport::Connecting;
+use tree::{Own, Shown};
+use users::{Listed, list_users};
+use working::{begin_work, end_work};
 
 /// The status where the words are at fault.
 const WORDS: u8 = 5;
@@ -104,8 +115,32 @@ enum Outcome {
     Renewed(Renewed),
     /// What came of a command, and what is told beside it.
     Answer(Answer<Global>, Beside),
+    /// Who is listed, and what is told beside it.
+    Users(Listed, Beside),
     /// Commands were carried out, of which all is printed, and this is the status to end with.
     Ended(u8),
+}
+
+/// What is done in a session.
+#[derive(Clone, Copy)]
+pub(crate) enum Work<'a> {
+    /// A command.
+    Run(&'a Command<'a>),
+    /// What a name stands for gets another one.
+    Move { path: &'a str, to: &'a str },
+    /// All that stands in a folder of the system is put at a path.
+    PutTree { path: &'a str, dir: &'a str },
+    /// All that stands at a path is written into a folder of the system.
+    GetTree { path: &'a str, dir: &'a str },
+    /// It is told who is listed.
+    Users,
+}
+
+/// What came of it.
+#[derive(Drop)]
+pub(crate) enum Told {
+    Answer(Answer<Global>),
+    Users(Listed),
 }
 
 /// The key of a seed: made of what was kept of its leaves; or drawn, and then its leaves are kept. That they can't be is
@@ -176,6 +211,24 @@ fn open_client<H: Threads + Sync>(
     client_over(rt.alloc(), line.user, keys, own, journal)
 }
 
+/// The user's client, over a folder that tells its place from then on.
+fn open_and_tell<H: Threads + Sync>(
+    rt: &HostRuntime,
+    host: &H,
+    line: &Line<'_>,
+    keys: &Keys,
+    place: &Place,
+) -> Result<OwnClient, Hindrance> {
+    let client = open_client(rt, host, line, keys)?;
+    match tell_place(rt, line.dir, place) {
+        Ok(()) => Ok(client),
+        Err(hindrance) => {
+            let_go(client);
+            Err(hindrance)
+        }
+    }
+}
+
 /// The user's client, where the folder is the user's, whole, locked, and at its place.
 pub(crate) fn lock_and_open<H: Threads + Sync>(
     rt: &HostRuntime,
@@ -186,11 +239,13 @@ pub(crate) fn lock_and_open<H: Threads + Sync>(
     check_folder(rt, line, keys)?;
     let locks = lock_ledgers(rt, line.dir, line.user, keys)?;
     let place = check_place(rt, line.dir, &locks, line.moved)?;
-    let client = open_client(rt, host, line, keys)?;
-    match tell_place(rt, line.dir, &place) {
-        Ok(()) => Ok(Opened { client, locks }),
+    begin_work(rt, line.dir, &locks)?;
+    match open_and_tell(rt, host, line, keys, &place) {
+        Ok(client) => Ok(Opened { client, locks }),
         Err(hindrance) => {
-            let_go(client);
+            if !matches!(hindrance.refusal(), Some(Refusal::Device)) {
+                end_work(rt, line.dir);
+            }
             Err(hindrance)
         }
     }
@@ -229,8 +284,20 @@ fn parted<H: Net<Stream = TcpStream>>(
     (client, kept)
 }
 
-/// Ends a client, and gives how many leaves its newest key has left, if that is told.
-fn end_client(client: OwnClient) -> Option<usize> {
+/// Whether an answer tells that nothing can be sent any more over the connection that its command went over.
+pub(crate) fn tells_cut(answer: &Answer<Global>) -> bool {
+    match answer {
+        Answer::Refused(refusal) => matches!(refusal, Refusal::Cut),
+        _ => false,
+    }
+}
+
+/// Ends a client, and gives how many leaves its newest key has left, if that is told. Where no device failed it, the
+/// command came to its end.
+fn end_client(rt: &HostRuntime, folder: &str, client: OwnClient) -> Option<usize> {
+    if !matches!(client.phase(), Phase::Failed) {
+        end_work(rt, folder);
+    }
     let parts = client.close();
     let leaves = match parts.keys.last() {
         Some((_, ledger)) => few_leaves(ledger.text()),
@@ -248,10 +315,22 @@ fn end<H: Net<Stream = TcpStream>>(
     session: OwnSession<'_, H>,
 ) -> Option<usize> {
     let (client, kept) = parted(session);
-    let leaves = end_client(client);
+    let leaves = end_client(rt, folder, client);
     let _ = keep_blocks(rt, folder, &kept);
     let_go(kept);
     leaves
+}
+
+/// What came of a command, where it is told first which operation was finished before it.
+fn beside_resumed<H: Net<Stream = TcpStream>>(
+    rt: &HostRuntime,
+    session: &OwnSession<'_, H>,
+    answer: Answer<Global>,
+) -> Answer<Global> {
+    if let Some(resumed) = session.resumed() {
+        let _ = tell_resumed(rt, resumed);
+    }
+    answer
 }
 
 /// Carries a command out, and tells which operation was finished before it.
@@ -261,29 +340,77 @@ fn answer<H: Net<Stream = TcpStream>>(
     command: &Command<'_>,
 ) -> Answer<Global> {
     let answer = session.run(command);
-    if let Some(resumed) = session.resumed() {
-        let _ = tell_resumed(rt, resumed);
+    beside_resumed(rt, session, answer)
+}
+
+/// Gives what a name stands for another name in its place, and tells which operation was finished before.
+fn renamed<H: Net<Stream = TcpStream>>(
+    rt: &HostRuntime,
+    session: &mut OwnSession<'_, H>,
+    path: &str,
+    to: &str,
+) -> Answer<Global> {
+    let answer = session.rename(path, to);
+    beside_resumed(rt, session, answer)
+}
+
+/// Does in a session what is to be done.
+pub(crate) fn do_work<H: Net<Stream = TcpStream>>(
+    rt: &HostRuntime,
+    server: &Server<'_, H>,
+    session: &mut OwnSession<'_, H>,
+    line: &Line<'_>,
+    work: Work<'_>,
+) -> Result<Told, Hindrance> {
+    match work {
+        Work::Run(command) => Ok(Told::Answer(answer(rt, session, command))),
+        Work::Move { path, to } => Ok(Told::Answer(renamed(rt, session, path, to))),
+        Work::PutTree { path, dir } => {
+            let own = Own::of(rt, line.dir)?;
+            put_tree(rt, server, session, own, (dir, path)).map(Told::Answer)
+        }
+        Work::GetTree { path, dir } => {
+            let own = Own::of(rt, line.dir)?;
+            get_tree(rt, server, session, own, (path, dir)).map(Told::Answer)
+        }
+        Work::Users => list_users(rt, server, session, line.user),
+    }
+}
+
+/// An answer as it is told: where the server couldn't be reached for want of memory, that.
+pub(crate) fn told_of(answer: Answer<Global>, reach: Reach) -> Answer<Global> {
+    if tells_cut(&answer) && reach.lacks_memory() {
+        let_go(answer);
+        return Answer::Refused(Refusal::Memory);
     }
     answer
 }
 
-/// Carries a command out that stands alone.
+/// What came of it, with what is told beside it.
+fn outcome_of(told: Told, beside: Beside) -> Outcome {
+    match told {
+        Told::Answer(answer) => Outcome::Answer(told_of(answer, beside.reach), beside),
+        Told::Users(listed) => Outcome::Users(listed, beside),
+    }
+}
+
+/// Does in a session of its own what is to be done.
 fn carry_out<H: Net<Stream = TcpStream> + Threads + Sync>(
     rt: &HostRuntime,
     host: &H,
     line: &Line<'_>,
     keys: &Keys,
-    command: &Command<'_>,
+    work: Work<'_>,
 ) -> Result<Outcome, Hindrance> {
     let Opened { client, locks } = lock_and_open(rt, host, line, keys)?;
-    let reach = Cell::new(Reach::Untried);
-    let server = Server::new(host, line.server, &reach);
-    let mut session = session_of(rt, server, client, read_blocks(rt, line.dir));
-    let answer = answer(rt, &mut session, command);
+    let contact = Contact::new(rt);
+    let server = Server::new(host, line.server, &contact);
+    let mut session = session_of(rt, server.again(), client, read_blocks(rt, line.dir));
+    let told = do_work(rt, &server, &mut session, line, work);
     let leaves = end(rt, line.dir, session);
-    let reach = reach.get();
+    let reach = contact.reach();
     let_go(locks);
-    Ok(Outcome::Answer(answer, Beside { reach, leaves }))
+    told.map(|told| outcome_of(told, Beside { reach, leaves }))
 }
 
 /// The digits of a public key, on a line behind others.
@@ -327,7 +454,7 @@ fn put_file<H: Net<Stream = TcpStream> + Threads + Sync>(
         path,
         content: &content,
     };
-    carry_out(rt, host, line, &keys, &command)
+    carry_out(rt, host, line, &keys, Work::Run(&command))
 }
 
 /// Makes the changes that a file of the system has. Where its words are at fault nothing is begun.
@@ -339,7 +466,10 @@ fn make_changes<H: Net<Stream = TcpStream> + Threads + Sync>(
 ) -> Result<Outcome, Hindrance> {
     let keys = read_keys(rt, line.dir, line.user)?;
     match read_changes(rt, file) {
-        Ok(changes) => carry_out(rt, host, line, &keys, &Command::Admin(&changes)),
+        Ok(changes) => {
+            let command = Command::Admin(&changes);
+            carry_out(rt, host, line, &keys, Work::Run(&command))
+        }
         Err(NoChanges::Line(status)) => Ok(Outcome::Ended(status)),
         Err(NoChanges::Hindered(hindrance)) => Err(hindrance),
     }
@@ -391,19 +521,20 @@ fn get_file<H: Net<Stream = TcpStream> + Threads + Sync>(
 ) -> Result<Outcome, Hindrance> {
     let keys = read_keys(rt, line.dir, line.user)?;
     let target = Target::open(rt, file)?;
-    let outcome = carry_out(rt, host, line, &keys, &Command::Cat(path));
+    let command = Command::Cat(path);
+    let outcome = carry_out(rt, host, line, &keys, Work::Run(&command));
     outcome_into(rt, target, outcome)
 }
 
-/// Carries a command out that needs no file.
-fn obey_command<H: Net<Stream = TcpStream> + Threads + Sync>(
+/// Does in a session of its own what is to be done, for which no file is read before.
+fn obey_work<H: Net<Stream = TcpStream> + Threads + Sync>(
     rt: &HostRuntime,
     host: &H,
     line: &Line<'_>,
-    command: &Command<'_>,
+    work: Work<'_>,
 ) -> Result<Outcome, Hindrance> {
     let keys = read_keys(rt, line.dir, line.user)?;
-    carry_out(rt, host, line, &keys, command)
+    carry_out(rt, host, line, &keys, work)
 }
 
 /// Does what a line wants.
@@ -416,7 +547,11 @@ fn obey<H: Net<Stream = TcpStream> + Threads + Sync>(
         Wanted::Key => own_key_digits(rt, host, line).map(Outcome::Key),
         Wanted::Status => read_standing(rt, host, line).map(Outcome::Status),
         Wanted::Batch { stops } => carry_out_batch(rt, host, line, *stops).map(Outcome::Ended),
-        Wanted::Run(command) => obey_command(rt, host, line, command),
+        Wanted::Run(command) => obey_work(rt, host, line, Work::Run(command)),
+        Wanted::Move { path, to } => obey_work(rt, host, line, Work::Move { path, to }),
+        Wanted::PutTree { path, dir } => obey_work(rt, host, line, Work::PutTree { path, dir }),
+        Wanted::GetTree { path, dir } => obey_work(rt, host, line, Work::GetTree { path, dir }),
+        Wanted::Users => obey_work(rt, host, line, Work::Users),
         Wanted::Put { path, file } => put_file(rt, host, line, path, file),
         Wanted::Get { path, file } => get_file(rt, host, line, path, file),
         Wanted::Admin(file) => make_changes(rt, host, line, file),
@@ -424,9 +559,22 @@ fn obey<H: Net<Stream = TcpStream> + Threads + Sync>(
     }
 }
 
+/// Prints the entries of a directory on a terminal, which takes no name for a command.
+fn print_entries(rt: &HostRuntime, entries: &Directory<Global>) -> anyhow::Result<()> {
+    for entry in entries.entries() {
+        let (name, target) = (Shown(entry.name().as_str()), entry.target());
+        let (principal, i_number) = (target.principal.get(), target.i_number.get());
+        println!(rt; "{name} {principal}:{i_number}")?;
+    }
+    Ok(())
+}
+
 /// Prints an answer: the status to end with.
 fn print_answer(rt: &HostRuntime, answer: &Answer<Global>) -> anyhow::Result<u8> {
-    answer.write(&mut io::writer(rt))?;
+    match answer {
+        Answer::Listing(entries) if rt.stdout().is_terminal() => print_entries(rt, entries)?,
+        _ => answer.write(&mut io::writer(rt))?,
+    }
     Ok(answer.status())
 }
 
@@ -457,6 +605,10 @@ fn print(rt: &HostRuntime, outcome: &Result<Outcome, Hindrance>) -> anyhow::Resu
             Ok(0)
         }
         Ok(Outcome::Answer(answer, _)) => print_answer(rt, answer),
+        Ok(Outcome::Users(listed, _)) => {
+            println!(rt; "{listed}")?;
+            Ok(0)
+        }
         Ok(Outcome::Ended(status)) => Ok(*status),
         Err(hindrance) => print_hindrance(rt, *hindrance),
     }
@@ -472,7 +624,7 @@ fn reason_of<'a>(
         Ok(Outcome::Answer(answer, beside)) => {
             reason_of_answer(line, wanted, beside.reach, answer)
         }
-        Ok(Outcome::Key(_) | Outcome::Status(_) | Outcome::Renewed(_) | Outcome::Ended(_)) => None,
+        Ok(_) => None,
         Err(hindrance) => Some(reason_of_hindrance(line, wanted, *hindrance)),
     }
 }
@@ -487,7 +639,7 @@ fn tell_leaves(rt: &HostRuntime, leaves: Option<usize>) {
 /// How many leaves the newest key has left, if that is told beside what came.
 fn leaves_beside(outcome: &Result<Outcome, Hindrance>) -> Option<usize> {
     match outcome {
-        Ok(Outcome::Answer(_, beside)) => beside.leaves,
+        Ok(Outcome::Answer(_, beside) | Outcome::Users(_, beside)) => beside.leaves,
         _ => None,
     }
 }
@@ -616,8 +768,11 @@ fn run<H: Net<Stream = TcpStream> + Threads + Sync>(
             return Ok(WORDS);
         }
     };
-    let config = add_config(rt, &mut words).err();
-    run_words(rt, host, &words, config)
+    match add_config(rt, &mut words) {
+        Ok(()) => run_words(rt, host, &words, None),
+        Err(ConfigFault::Memory) => refuse(rt, &LineError::Memory),
+        Err(fault) => run_words(rt, host, &words, Some(fault)),
+    }
 }
 
 /// Tells that what came can't be printed: the status to end with.

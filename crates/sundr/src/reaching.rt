@@ -1,8 +1,9 @@
 //! The server, as it is reached.
 
-ghost use Rattle.std.specs.Prelude.{◌≤◌, None};
+ghost use Rattle.std.specs.Prelude.{◌≡◌, ◌≤◌, IfOk, None, length};
 ghost use Rattle.leaf_ledger.specs.Device.{HasRisen};
 
+use crate::pace::{Pace, silence};
 use connection::{Connection, ConnectionFault, read_some};
 use std::cell::Cell;
 use std::io::{self, ErrorKind, Write};
@@ -12,9 +13,6 @@ use transport::Connect;
 
 /// For how long it is tried to connect, in milliseconds: its addresses share that.
 const PATIENCE: u64 = 10_000;
-
-/// For how long a read or a write waits for the server, in seconds.
-const SILENCE: u64 = 60;
 
 /// What keeps a server from being reached.
 #[derive(Clone, Copy)]
@@ -27,6 +25,8 @@ pub(crate) enum Unreached {
     Refused,
     /// It didn't answer in time.
     Late,
+    /// Memory ran out.
+    Memory,
     /// Another fault of the system or of the net.
     Other,
 }
@@ -36,7 +36,7 @@ impl Unreached {
     fn by_name(fault: &io::Error) -> Unreached {
         match fault.kind() {
             ErrorKind::InvalidInput => Unreached::NoAddress,
-            ErrorKind::OutOfMemory => Unreached::Other,
+            ErrorKind::OutOfMemory => Unreached::Memory,
             _ => Unreached::NoHost,
         }
     }
@@ -46,6 +46,7 @@ impl Unreached {
         match fault.kind() {
             ErrorKind::ConnectionRefused => Unreached::Refused,
             ErrorKind::TimedOut => Unreached::Late,
+            ErrorKind::OutOfMemory => Unreached::Memory,
             _ => Unreached::Other,
         }
     }
@@ -57,6 +58,7 @@ impl Unreached {
             Unreached::NoHost => "no such host",
             Unreached::Refused => "connection refused: does a server listen there?",
             Unreached::Late => "connection timed out: no answer within 10 seconds",
+            Unreached::Memory => "memory ran out as it was reached",
             Unreached::Other => "can't be reached",
         }
     }
@@ -69,6 +71,8 @@ pub(crate) enum Broken {
     Closed,
     /// The server said nothing, or took nothing, for a minute.
     Late,
+    /// The command's time is over.
+    Slow,
     /// Another fault of the system or of the net.
     Other,
 }
@@ -96,6 +100,9 @@ impl Broken {
             Broken::Late => {
                 "no answer came within a minute: try again, what was begun is finished first"
             }
+            Broken::Slow => {
+                "too slow: a command has two minutes, and a second more for each 16 KB: try again, what was begun is finished first"
+            }
             Broken::Other => "the connection failed: try again, what was begun is finished first",
         }
     }
@@ -114,36 +121,137 @@ pub(crate) enum Reach {
     Broken(Broken),
 }
 
+impl Reach {
+    /// Whether the server couldn't be reached for want of memory.
+    pub(crate) fn lacks_memory(self) -> bool {
+        matches!(self, Reach::Unreached(Unreached::Memory))
+    }
+}
+
+/// What is known of the server while it is asked: what came of the latest try to reach it, and which time the command
+/// has.
+#[derive(Drop)]
+pub(crate) struct Contact<'a> {
+    reach: Cell<Reach>,
+    pace: Pace<'a>,
+}
+
+impl<'a> Contact<'a> {
+    /// That of a command that begins now, for which the server wasn't tried to be reached.
+    pub(crate) fn new(rt: &'a HostRuntime) -> Contact<'a> {
+        Contact {
+            reach: Cell::new(Reach::Untried),
+            pace: Pace::new(rt),
+        }
+    }
+
+    /// What came of the latest try to reach the server.
+    pub(crate) fn reach(&self) -> Reach {
+        self.reach.get()
+    }
+
+    /// Another command begins now.
+    pub(crate) fn begin(&self) {
+        self.pace.begin();
+    }
+}
+
 /// A stream over TCP to the server, which tells what broke it. Of its bytes it tells none. That the server sends nothing
-/// for a minute, or takes nothing that is sent to it, counts as a fault.
+/// for a minute, or takes nothing that is sent to it, counts as a fault; so does a command whose time is over.
 #[derive(Drop)]
 pub(crate) struct Stream<'a> {
     stream: TcpStream,
-    reach: &'a Cell<Reach>,
+    contact: &'a Contact<'a>,
+    /// The stream's limit of reads and writes is less than a minute.
+    hurried: bool,
     ended: bool,
     faults: u64,
 }
 
+/// Tells what broke a connection, and counts it.
+fn break_off(contact: &Contact<'_>, faults: &mut u64, broken: Broken) -> ConnectionFault
+    ensures later { faults.old ≤ faults.new }
+    ensures rose { HasRisen faults.old faults.new }
+{
+    contact.reach.set(Reach::Broken(broken));
+    *faults = faults.saturating_add(1);
+    ConnectionFault
+}
+
+/// Bounds the next read or write of a stream by the time that the command has left. An error where that is over. Where the
+/// bound is less than a minute, that is noted.
+fn hurry(stream: &TcpStream, contact: &Contact<'_>, hurried: &mut bool) -> Result<(), Broken> {
+    let Some(wait) = contact.pace.wait() else {
+        return Err(Broken::Slow);
+    };
+    let is_short = wait < silence();
+    if is_short || *hurried {
+        *hurried = is_short;
+        limit(stream, wait).map_err(|_| Broken::Other)?;
+    }
+    Ok(())
+}
+
+/// What a fault is in which bytes were read or written: where the command has no time left, that.
+fn broken_by(contact: &Contact<'_>, fault: &io::Error) -> Broken {
+    match contact.pace.wait() {
+        Some(_) => Broken::by(fault),
+        None => Broken::Slow,
+    }
+}
+
+/// Writes all bytes to a stream in the time that is left.
+fn write_in_time(
+    stream: &mut TcpStream,
+    contact: &Contact<'_>,
+    hurried: &mut bool,
+    bytes: &[u8],
+) -> Result<(), Broken> {
+    let mut rest = bytes;
+    for _turn in 0..u64::MAX {
+        if rest.is_empty() {
+            return Ok(());
+        }
+        hurry(stream, contact, hurried)?;
+        match stream.write(rest) {
+            Ok(0) => return Err(Broken::Closed),
+            Ok(count) => {
+                contact.pace.carry(count);
+                rest = &rest[count..];
+            }
+            Err(fault) if fault.kind() == ErrorKind::Interrupted => {}
+            Err(fault) => return Err(broken_by(contact, &fault)),
+        }
+    }
+    Err(Broken::Other)
+}
+
 impl<'a> Stream<'a> {
     /// A stream from which nothing was read and to which nothing was written.
-    fn new(stream: TcpStream, reach: &'a Cell<Reach>) -> Stream<'a> {
+    fn new(stream: TcpStream, contact: &'a Contact<'a>) -> Stream<'a> {
         Stream {
             stream,
-            reach,
+            contact,
+            hurried: false,
             ended: false,
             faults: 0,
         }
     }
-}
 
-/// Tells what broke a connection, and counts it.
-fn break_off(reach: &Cell<Reach>, faults: &mut u64, broken: Broken) -> ConnectionFault
-    ensures later { faults.old ≤ faults.new }
-    ensures rose { HasRisen faults.old faults.new }
-{
-    reach.set(Reach::Broken(broken));
-    *faults = faults.saturating_add(1);
-    ConnectionFault
+    /// Reads bytes in the time that is left.
+    fn read_in_time(&mut self, buffer: &mut [u8]) -> Result<usize, Broken>
+        ensures bound { IfOk result (λ count. count ≤ length buffer.new) }
+        ensures faults { self.new.faults ≡ self.old.faults }
+    {
+        hurry(&self.stream, self.contact, &mut self.hurried)?;
+        match read_some(&mut self.stream, buffer) {
+            Ok(count) => {
+                self.contact.pace.carry(count);
+                Ok(count)
+            }
+            Err(fault) => Err(broken_by(self.contact, &fault)),
+        }
+    }
 }
 
 impl<'a> Connection for Stream<'a> {
@@ -154,22 +262,28 @@ impl<'a> Connection for Stream<'a> {
     ghost fault_count = { λ s. s.faults };
 
     fn read(&mut self, buffer: &mut [u8]) -> Result<usize, ConnectionFault> {
-        match read_some(&mut self.stream, buffer) {
+        match self.read_in_time(buffer) {
             Ok(count) => {
                 self.ended = count == 0;
                 if count == 0 {
-                    self.reach.set(Reach::Broken(Broken::Closed));
+                    self.contact.reach.set(Reach::Broken(Broken::Closed));
                 }
                 Ok(count)
             }
-            Err(fault) => Err(break_off(self.reach, &mut self.faults, Broken::by(&fault))),
+            Err(broken) => Err(break_off(self.contact, &mut self.faults, broken)),
         }
     }
 
     fn write(&mut self, bytes: &[u8]) -> Result<(), ConnectionFault> {
-        match self.stream.write_all(bytes) {
+        let Stream {
+            stream,
+            contact,
+            hurried,
+            ..
+        } = self;
+        match write_in_time(stream, *contact, hurried, bytes) {
             Ok(()) => Ok(()),
-            Err(fault) => Err(break_off(self.reach, &mut self.faults, Broken::by(&fault))),
+            Err(broken) => Err(break_off(self.contact, &mut self.faults, broken)),
         }
     }
 
@@ -183,22 +297,22 @@ impl<'a> Connection for Stream<'a> {
 pub(crate) struct Server<'a, H> {
     host: &'a H,
     address: &'a str,
-    reach: &'a Cell<Reach>,
+    contact: &'a Contact<'a>,
 }
 
 impl<'a, H> Server<'a, H> {
     /// It is reached by a host, and each try tells here what came of it.
-    pub(crate) fn new(host: &'a H, address: &'a str, reach: &'a Cell<Reach>) -> Server<'a, H> {
+    pub(crate) fn new(host: &'a H, address: &'a str, contact: &'a Contact<'a>) -> Server<'a, H> {
         Server {
             host,
             address,
-            reach,
+            contact,
         }
     }
 
     /// The same server, over a connection of its own.
     pub(crate) fn again(&self) -> Server<'a, H> {
-        Server::new(self.host, self.address, self.reach)
+        Server::new(self.host, self.address, self.contact)
     }
 
     /// What connects, and starts threads.
@@ -208,8 +322,19 @@ impl<'a, H> Server<'a, H> {
 
     /// What came of the latest try to reach it.
     pub(crate) fn reach(&self) -> Reach {
-        self.reach.get()
+        self.contact.reach()
     }
+
+    /// Another command of it begins now.
+    pub(crate) fn begin(&self) {
+        self.contact.begin();
+    }
+}
+
+/// Bounds each read and each write of a stream.
+fn limit(stream: &TcpStream, wait: Duration) -> io::Result<()> {
+    stream.set_read_timeout(Some(wait))?;
+    stream.set_write_timeout(Some(wait))
 }
 
 /// A stream to one of a server's addresses, if it answers within so many milliseconds. What is written is sent at once,
@@ -219,12 +344,10 @@ fn join<H: Net<Stream = TcpStream>>(
     address: SocketAddr,
     patience: u64,
 ) -> io::Result<TcpStream> {
-    let limit = Duration::from_millis(patience);
-    let stream = TcpStream::connect_timeout(host, &address, limit)?;
-    let silence = Some(Duration::from_secs(SILENCE));
+    let patience = Duration::from_millis(patience);
+    let stream = TcpStream::connect_timeout(host, &address, patience)?;
     stream.set_nodelay(true)?;
-    stream.set_read_timeout(silence)?;
-    stream.set_write_timeout(silence)?;
+    limit(&stream, silence())?;
     Ok(stream)
 }
 
@@ -248,11 +371,11 @@ impl<'a, H: Net<Stream = TcpStream>> Connect<Stream<'a>> for Server<'a, H> {
     fn connect(&mut self) -> Result<Stream<'a>, ConnectionFault> {
         match dial(self.host, self.address) {
             Ok(stream) => {
-                self.reach.set(Reach::Joined);
-                Ok(Stream::new(stream, self.reach))
+                self.contact.reach.set(Reach::Joined);
+                Ok(Stream::new(stream, self.contact))
             }
             Err(unreached) => {
-                self.reach.set(Reach::Unreached(unreached));
+                self.contact.reach.set(Reach::Unreached(unreached));
                 Err(ConnectionFault)
             }
         }

@@ -14,6 +14,9 @@ use wire::Status;
 const LOST: &str =
     "without effect: you may not change what it names, or another user came first: look, and try again";
 
+/// Why a directory's entries can't be shown.
+const NO_DIRECTORY_THERE: &str = "no such directory: nothing is there, or a file";
+
 /// Why a file's content can't be shown.
 const NO_FILE_THERE: &str = "no such file: nothing is there, or a directory";
 
@@ -86,6 +89,9 @@ fn name_of<'a>(command: &Command<'a>) -> &'a str {
     match command {
         Command::Ls(path) | Command::Cat(path) | Command::Mkdir(path) | Command::Rm(path) => *path,
         Command::Put { path, .. } | Command::Link { path, .. } => *path,
+        Command::AddName { path, .. } | Command::DropName { path, .. } => *path,
+        Command::Details(path) => *path,
+        Command::PutAll { directory, .. } => *directory,
         Command::AddUser { .. } => "adduser",
         Command::SetKey { .. } => "setkey",
         Command::AddMember { .. } => "addmember",
@@ -98,12 +104,23 @@ fn name_of<'a>(command: &Command<'a>) -> &'a str {
 fn name_in<'a>(wanted: &Wanted<'a>) -> &'a str {
     match wanted {
         Wanted::Key => "key",
+        Wanted::Users => "users",
         Wanted::Status => "status",
         Wanted::Batch { .. } => "batch",
         Wanted::Renew { .. } => "renew",
         Wanted::Admin(file) => *file,
         Wanted::Put { path, .. } | Wanted::Get { path, .. } => *path,
+        Wanted::PutTree { path, .. } | Wanted::GetTree { path, .. } => *path,
+        Wanted::Move { path, .. } => *path,
         Wanted::Run(command) => name_of(command),
+    }
+}
+
+/// The path at which a name or something is to be made.
+fn new_name_in<'a>(wanted: &Wanted<'a>) -> &'a str {
+    match wanted {
+        Wanted::Move { to, .. } => *to,
+        _ => name_in(wanted),
     }
 }
 
@@ -111,6 +128,7 @@ fn name_in<'a>(wanted: &Wanted<'a>) -> &'a str {
 fn file_in<'a>(wanted: &Wanted<'a>) -> &'a str {
     match wanted {
         Wanted::Put { file, .. } | Wanted::Get { file, .. } | Wanted::Admin(file) => *file,
+        Wanted::PutTree { dir, .. } | Wanted::GetTree { dir, .. } => *dir,
         _ => name_in(wanted),
     }
 }
@@ -196,7 +214,7 @@ fn words_of_lost_in(wanted: &Wanted<'_>) -> &'static str {
 /// Why a command finds no path where its path is one.
 fn words_of_path(command: &Command<'_>) -> &'static str {
     match command {
-        Command::Ls(_) => "no such directory: nothing is there, or a file",
+        Command::Ls(_) | Command::Details(_) => NO_DIRECTORY_THERE,
         Command::Cat(_) => NO_FILE_THERE,
         Command::Link { target, .. } if place_of(target).is_none() => {
             "can't lead to that: what it is to lead to is told as @p:i"
@@ -213,7 +231,14 @@ fn words_of_path_in(wanted: &Wanted<'_>) -> &'static str {
     }
     match wanted {
         Wanted::Run(command) => words_of_path(command),
+        Wanted::Move { .. } => {
+            "can't be moved: it has no name there, or no directory is there for the new one, or it is a directory and would leave its own"
+        }
         Wanted::Get { .. } => NO_FILE_THERE,
+        Wanted::GetTree { .. } => NO_DIRECTORY_THERE,
+        Wanted::PutTree { .. } => {
+            "no directory can be there: it is a file, or no such directory above it, or it has a name that none may have"
+        }
         _ => "no file can be put there: it is a directory, or no such directory above it",
     }
 }
@@ -282,7 +307,7 @@ fn reason_of_refusal<'a>(
 ) -> Reason<'a> {
     let (name, words) = match refusal {
         Refusal::NoPath => (name_in(wanted), words_of_path_in(wanted)),
-        Refusal::There => (name_in(wanted), "already there"),
+        Refusal::There => (new_name_in(wanted), "already there"),
         Refusal::NotEmpty => (name_in(wanted), "directory not empty"),
         Refusal::NoNumber => (
             name_in(wanted),
@@ -307,7 +332,7 @@ pub(crate) fn reason_of_answer<'a>(
     answer: &Answer<Global>,
 ) -> Option<Reason<'a>> {
     match answer {
-        Answer::Done | Answer::Bytes(_) | Answer::Listing(_) => None,
+        Answer::Done | Answer::Bytes(_) | Answer::Listing(_) | Answer::Details(_) => None,
         Answer::Lost(_) => Some(Reason::Of {
             name: name_in(wanted),
             words: words_of_lost_in(wanted),

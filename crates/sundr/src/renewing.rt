@@ -5,10 +5,11 @@ use crate::folder::{
 };
 use crate::hindrance::{FileFault, FolderFile, Hindrance, RenewalFault};
 use crate::init::{
-    Fingerprint, SeedBytes, key_of_seed, make_file, new_ledger, no_folder, random_seed,
-    sync_folder, unmake,
+    Digits, Fingerprint, SeedBytes, key_of_seed, make_file, new_ledger, no_folder, random_seed,
+    sync_folder,
 };
 use crate::standing::free_leaves;
+use crate::working::end_work;
 use crate::{Opened, OwnClient, lock_and_open};
 use client_verify::Phase;
 use commands::Refusal;
@@ -156,10 +157,11 @@ fn make_both(
     key: &PublicKey,
     seed: &SeedBytes,
 ) -> Result<(), Hindrance> {
+    let path = path_of(rt.alloc(), folder, FolderFile::Seed(number))?;
     make_whole(rt, folder, FolderFile::Ledger(number), &new_ledger(key))?;
     let made = make_whole(rt, folder, FolderFile::Seed(number), seed);
     if made.is_err() {
-        unmake(rt, folder, FolderFile::Seed(number));
+        let _ = fs::remove_file(rt, &path);
     }
     made
 }
@@ -198,6 +200,7 @@ pub(crate) fn renew<H: Threads + Sync>(
     let number = next_number(line.user, &keys)?;
     let Opened { client, locks } = lock_and_open(rt, host, line, &keys)?;
     let newest = newest_of(rt.alloc(), client)?;
+    end_work(rt, line.dir);
     if let Some(fault) = fault_of(&newest, early) {
         return Err(fault.into());
     }
@@ -212,7 +215,7 @@ pub(crate) fn renew<H: Threads + Sync>(
 /// Prints what user 0 types to set the key, and its fingerprint.
 pub(crate) fn print_renewed(rt: &HostRuntime, renewed: &Renewed) -> anyhow::Result<()> {
     let user = renewed.user.get();
-    let digits = hex::encode(rt.alloc(), *renewed.key.as_bytes())?;
+    let digits = Digits(&renewed.key);
     let fingerprint = Fingerprint::of(&renewed.key);
     println!(rt; "setkey {user} {digits}")?;
     println!(rt; "fingerprint of user {user}'s key: {fingerprint}")?;

@@ -1,0 +1,399 @@
+//! All that stands in a folder of this system is written below a directory.
+
+use crate::OwnSession;
+use crate::folder::{content_hindrance, read_content};
+use crate::hindrance::Hindrance;
+use crate::reaching::Server;
+use crate::tree::{
+    IN_THE_WAY, OWN_FOLDER, Own, Shown, Stopped, Tally, joined, place_word, run, show,
+};
+use commands::{Answer, Command, Kind, MOST_FILES, NewFile, Refusal, Row, have_names};
+use directory::{MOST_ENTRIES, Target as Place};
+use itable::FILE_SIZE;
+use layout::let_go;
+use std::alloc::{AllocError, Global};
+use std::fs;
+use std::io::{self, ErrorKind};
+use std::net::{Net, TcpStream};
+
+/// What is told of a name that is none here.
+const NO_NAME: &str = "a name that no entry may have";
+
+/// What is told of a folder with names that aren't text.
+const NO_TEXT: &str = "a name in it isn't UTF-8";
+
+/// What is told of a file for which its directory has no room.
+const NO_ROOM: &str = "the directory has as many entries as one may have";
+
+/// A folder whose files are to be written, and the directory for them.
+#[derive(Drop)]
+struct Pending {
+    folder: String,
+    path: String,
+}
+
+/// A file that is to be written, and its bytes.
+#[derive(Drop)]
+struct Content {
+    name: String,
+    bytes: Vec<u8>,
+}
+
+/// What is still to be written, and what was.
+#[derive(Drop)]
+struct Putting {
+    pending: Vec<Pending>,
+    /// The files that are written next, all into one directory.
+    files: Vec<Content>,
+    /// How many entries that directory has by then.
+    entries: usize,
+    own: Own,
+    tally: Tally,
+}
+
+/// The names of a folder, in ascending order, and whether it has others that aren't text.
+fn names_in(rt: &HostRuntime, folder: &str) -> io::Result<(Vec<String>, bool)> {
+    let mut names = Vec::new(rt.alloc());
+    let mut has_others = false;
+    for entry in fs::read_dir(rt, folder)? {
+        match entry {
+            Ok(entry) => names.push(String::from_str(rt.alloc(), entry.file_name())?)?,
+            Err(fault) if fault.kind() == ErrorKind::InvalidFilename => has_others = true,
+            Err(fault) => return Err(fault),
+        }
+    }
+    names.sort()?;
+    Ok((names, has_others))
+}
+
+/// What stands under a name among these entries, if one has it.
+fn kind_of(rows: &[Row<Global>], name: &str) -> Option<Kind> {
+    let row = rows.iter().find(|row| row.entry().name().as_str() == name)?;
+    Some(row.kind())
+}
+
+/// Whether an entry may have a name.
+fn is_name(name: &str) -> bool {
+    have_names(&[NewFile { name, content: &[] }])
+}
+
+/// Tells which files were to be written by an operation of which changes had no effect.
+fn tell_lost(rt: &HostRuntime, directory: &str, files: &[Content]) {
+    for file in files {
+        let _ = eprintln!(rt;
+            "sundr: {}/{}: perhaps not written",
+            Shown(directory),
+            Shown(&file.name)
+        );
+    }
+}
+
+/// The entries of a directory, which is made where nothing is there.
+fn rows_at<H: Net<Stream = TcpStream>>(
+    rt: &HostRuntime,
+    server: &Server<'_, H>,
+    session: &mut OwnSession<'_, H>,
+    path: &str,
+) -> Result<Vec<Row<Global>>, Stopped> {
+    match run(rt, server, session, &Command::Mkdir(path)) {
+        Answer::Done => return Ok(Vec::new(rt.alloc())),
+        Answer::Refused(Refusal::There) => {}
+        other => return Err(Stopped::Answered(other)),
+    }
+    // What is there was looked at just now.
+    match show(server, session, &Command::Details(path)) {
+        Answer::Details(rows) => Ok(rows),
+        other => Err(Stopped::Answered(other)),
+    }
+}
+
+/// The place of the file of a name and a size, if there is one among these entries.
+fn like(rows: &[Row<Global>], name: &str, size: usize) -> Option<Place> {
+    let row = rows.iter().find(|row| row.entry().name().as_str() == name)?;
+    match row.kind() {
+        Kind::File(bytes) if bytes as usize == size => Some(row.entry().target()),
+        _ => None,
+    }
+}
+
+/// Whether the file at a place has these bytes.
+fn has_content<H: Net<Stream = TcpStream>>(
+    rt: &HostRuntime,
+    server: &Server<'_, H>,
+    session: &mut OwnSession<'_, H>,
+    place: Place,
+    content: &[u8],
+) -> Result<bool, Stopped> {
+    let word = place_word(rt.alloc(), place)?;
+    match show(server, session, &Command::Cat(&word)) {
+        Answer::Bytes(bytes) => Ok(bytes.as_slice() == content),
+        other => Err(Stopped::Answered(other)),
+    }
+}
+
+/// The names and the bytes of these files.
+fn new_files<'a>(alloc: Global, files: &'a [Content]) -> Result<Vec<NewFile<'a>>, AllocError> {
+    let mut all = Vec::new(alloc);
+    for file in files {
+        all.push(NewFile {
+            name: &file.name,
+            content: &file.bytes,
+        })?;
+    }
+    Ok(all)
+}
+
+/// Writes these files into a directory, in one operation.
+fn write_all<H: Net<Stream = TcpStream>>(
+    rt: &HostRuntime,
+    server: &Server<'_, H>,
+    session: &mut OwnSession<'_, H>,
+    directory: &str,
+    files: &[Content],
+) -> Result<(), Stopped> {
+    let files = new_files(rt.alloc(), files)?;
+    let command = Command::PutAll {
+        directory,
+        files: &files,
+    };
+    match run(rt, server, session, &command) {
+        Answer::Done => Ok(()),
+        other => Err(Stopped::Answered(other)),
+    }
+}
+
+impl Putting {
+    /// Writes the files that are next into a directory.
+    fn write<H: Net<Stream = TcpStream>>(
+        &mut self,
+        rt: &HostRuntime,
+        server: &Server<'_, H>,
+        session: &mut OwnSession<'_, H>,
+        directory: &str,
+    ) -> Result<(), Stopped> {
+        if self.files.is_empty() {
+            return Ok(());
+        }
+        let written = write_all(rt, server, session, directory, &self.files);
+        match &written {
+            Ok(()) => self.tally.count(rt, self.files.len()),
+            Err(Stopped::Answered(Answer::Lost(_))) => tell_lost(rt, directory, &self.files),
+            Err(_) => (),
+        }
+        self.files.clear();
+        written
+    }
+
+    /// Why a file isn't written, if it isn't: what stands under its name, the name itself, its size, or no room for one
+    /// more entry.
+    fn unwritten(&self, kind: Option<Kind>, name: &str, size: usize) -> Option<&'static str> {
+        match kind {
+            Some(Kind::Directory | Kind::Nothing) => Some(IN_THE_WAY),
+            None if !is_name(name) => Some(NO_NAME),
+            None if self.entries >= MOST_ENTRIES => Some(NO_ROOM),
+            _ if size > FILE_SIZE as usize => Some("larger than a file may be"),
+            _ => None,
+        }
+    }
+
+    /// A file is written next, unless it stands there with the same bytes. As many as one operation makes are written.
+    fn add_file<H: Net<Stream = TcpStream>>(
+        &mut self,
+        rt: &HostRuntime,
+        server: &Server<'_, H>,
+        session: &mut OwnSession<'_, H>,
+        rows: &[Row<Global>],
+        (from, directory, name): (&str, &str, &str),
+    ) -> Result<(), Stopped> {
+        let bytes = read_content(rt, from)?;
+        let kind = kind_of(rows, name);
+        if let Some(why) = self.unwritten(kind, name, bytes.len()) {
+            self.tally.leave_out(rt, from, why);
+            return Ok(());
+        }
+        if let Some(place) = like(rows, name, bytes.len()) {
+            if has_content(rt, server, session, place, &bytes)? {
+                return Ok(());
+            }
+        }
+        let name = String::from_str(rt.alloc(), name)?;
+        self.files.push(Content { name, bytes })?;
+        if kind.is_none() {
+            self.entries = self.entries.saturating_add(1);
+        }
+        if self.files.len() >= MOST_FILES {
+            self.write(rt, server, session, directory)?;
+        }
+        Ok(())
+    }
+
+    /// A folder is written later, into the directory of its name.
+    fn add_folder(
+        &mut self,
+        rt: &HostRuntime,
+        rows: &[Row<Global>],
+        (from, directory, name): (&str, &str, &str),
+    ) -> Result<(), Stopped> {
+        let why = match kind_of(rows, name) {
+            Some(Kind::File(_) | Kind::Nothing) => Some(IN_THE_WAY),
+            None if !is_name(name) => Some(NO_NAME),
+            _ => None,
+        };
+        if let Some(why) = why {
+            self.tally.leave_out(rt, from, why);
+            return Ok(());
+        }
+        let folder = String::from_str(rt.alloc(), from)?;
+        let path = joined(rt.alloc(), directory, name)?;
+        self.pending.push(Pending { folder, path })?;
+        Ok(())
+    }
+
+    /// What stands at a path of this system is written under a name: a file, or later all that stands in a folder.
+    fn add_found<H: Net<Stream = TcpStream>>(
+        &mut self,
+        rt: &HostRuntime,
+        server: &Server<'_, H>,
+        session: &mut OwnSession<'_, H>,
+        rows: &[Row<Global>],
+        (from, directory, name): (&str, &str, &str),
+    ) -> Result<(), Stopped> {
+        let found = match fs::symlink_metadata(rt, from) {
+            Ok(found) => found,
+            Err(fault) => return Err(content_hindrance(&fault).into()),
+        };
+        if found.is_dir() {
+            return self.add_folder(rt, rows, (from, directory, name));
+        }
+        if found.is_file() {
+            return self.add_file(rt, server, session, rows, (from, directory, name));
+        }
+        self.tally
+            .leave_out(rt, from, "neither a file nor a folder");
+        Ok(())
+    }
+
+    /// What has a name in a folder is written. What this system doesn't let be read is left out.
+    fn add<H: Net<Stream = TcpStream>>(
+        &mut self,
+        rt: &HostRuntime,
+        server: &Server<'_, H>,
+        session: &mut OwnSession<'_, H>,
+        rows: &[Row<Global>],
+        here: &Pending,
+        name: &str,
+    ) -> Result<(), Stopped> {
+        let from = joined(rt.alloc(), &here.folder, name)?;
+        let done = self.add_found(rt, server, session, rows, (&from, &here.path, name));
+        self.tally.past(rt, &from, done)
+    }
+
+    /// Writes what stands in a folder under these names.
+    fn add_all<H: Net<Stream = TcpStream>>(
+        &mut self,
+        rt: &HostRuntime,
+        server: &Server<'_, H>,
+        session: &mut OwnSession<'_, H>,
+        rows: &[Row<Global>],
+        here: &Pending,
+        names: &[String],
+    ) -> Result<(), Stopped> {
+        for name in names {
+            self.add(rt, server, session, rows, here, name)?;
+        }
+        self.write(rt, server, session, &here.path)
+    }
+
+    /// The names of a folder. Those that aren't text are left out.
+    fn names(&mut self, rt: &HostRuntime, folder: &str) -> Result<Vec<String>, Stopped> {
+        match names_in(rt, folder) {
+            Ok((names, has_others)) => {
+                if has_others {
+                    self.tally.leave_out(rt, folder, NO_TEXT);
+                }
+                Ok(names)
+            }
+            Err(fault) => Err(content_hindrance(&fault).into()),
+        }
+    }
+
+    /// Whether a folder is the user's own.
+    fn is_own(&self, rt: &HostRuntime, folder: &str) -> bool {
+        match fs::metadata(rt, folder) {
+            Ok(found) => self.own.is(&found),
+            Err(_) => false,
+        }
+    }
+
+    /// Writes what stands in a folder, unless it is the user's own.
+    fn go_on<H: Net<Stream = TcpStream>>(
+        &mut self,
+        rt: &HostRuntime,
+        server: &Server<'_, H>,
+        session: &mut OwnSession<'_, H>,
+        here: &Pending,
+    ) -> Result<(), Stopped> {
+        if self.is_own(rt, &here.folder) {
+            self.tally.leave_out(rt, &here.folder, OWN_FOLDER);
+            return Ok(());
+        }
+        let names = self.names(rt, &here.folder)?;
+        let rows = rows_at(rt, server, session, &here.path)?;
+        self.entries = rows.len();
+        let gone = self.add_all(rt, server, session, &rows, here, &names);
+        let_go(rows);
+        gone
+    }
+
+    /// Writes what stands in each folder that was put off, those last that stand deepest.
+    fn go<H: Net<Stream = TcpStream>>(
+        &mut self,
+        rt: &HostRuntime,
+        server: &Server<'_, H>,
+        session: &mut OwnSession<'_, H>,
+    ) -> Result<(), Stopped> {
+        for _ in 0..u64::MAX {
+            match self.pending.pop() {
+                Some(next) => {
+                    let done = self.go_on(rt, server, session, &next);
+                    self.tally.past(rt, &next.folder, done)?;
+                }
+                None => break,
+            }
+        }
+        Ok(())
+    }
+}
+
+/// The first folder, and no file yet.
+fn begun(alloc: Global, own: Own, folder: &str, path: &str) -> Result<Putting, Hindrance> {
+    let first = Pending {
+        folder: String::from_str(alloc, folder)?,
+        path: String::from_str(alloc, path)?,
+    };
+    let mut pending = Vec::new(alloc);
+    pending.push(first)?;
+    Ok(Putting {
+        pending,
+        files: Vec::new(alloc),
+        entries: 0,
+        own,
+        tally: Tally::new(),
+    })
+}
+
+/// Writes all that stands in a folder of this system below a directory, which is made where nothing is there. Eight files
+/// at most go into one operation; what is there already with the same bytes is left as it is.
+pub(crate) fn put_tree<H: Net<Stream = TcpStream>>(
+    rt: &HostRuntime,
+    server: &Server<'_, H>,
+    session: &mut OwnSession<'_, H>,
+    own: Own,
+    (folder, path): (&str, &str),
+) -> Result<Answer<Global>, Hindrance> {
+    let mut putting = begun(rt.alloc(), own, folder, path)?;
+    let gone = putting.go(rt, server, session);
+    let tally = putting.tally;
+    let_go(putting);
+    tally.answer(rt, path, gone)
+}
