@@ -1,7 +1,7 @@
 //! Each row of the table of answers once, also to writers that fail, texts of paths, and what commands come to.
 
-use commands::{Answer, Course, Place, Refusal, Stands, path_of, place_of};
-use directory::{Directory, Target};
+use commands::{Answer, Course, Kind, Place, Refusal, Row, Stands, path_of, place_of};
+use directory::{Directory, Entry, Target, name_text};
 use layout::{INumber, Principal};
 use reply_rules::Rule;
 use std::alloc::Global;
@@ -207,6 +207,40 @@ fn entries_are_printed(rt: HostRuntime) {
     assert!(rt; is_printed(&rt, answer, ("a 0:3\nb 64:4095\n", 0), rt.alloc()));
 }
 
+/// Names that a terminal could take for something else, and one that is printed as it is.
+const ODD_NAMES: [&str; 6] = ["\u{1b}[2J", "a\"b", "a\\b", "\u{7f}", "\u{9b}1mé", "é b"];
+
+/// How they are printed.
+const SHOWN_NAMES: [&str; 6] = [
+    "\"\\x1b[2J\"",
+    "\"a\\x22b\"",
+    "\"a\\x5cb\"",
+    "\"\\x7f\"",
+    "\"\\xc2\\x9b1m\\xc3\\xa9\"",
+    "é b",
+];
+
+/// Whether a row of this name is printed so, with this before it.
+fn is_row(rt: &impl Abort, name: &str, kind: Kind, wanted: (&str, &str), alloc: Global) -> bool {
+    let name = name_text(name.as_bytes()).expect(rt, "a name");
+    let entry = Entry::new(alloc, name, target(rt, 64, 4095)).expect(rt, "memory");
+    let mut rows = Vec::new(alloc);
+    rows.push(Row::new(entry, kind)).expect(rt, "memory");
+    let line = format!(in alloc; "{} 64:4095 {}\n", wanted.0, wanted.1).expect(rt, "memory");
+    is_printed(rt, Answer::Details(rows), (&line, 0), alloc)
+}
+
+#[test]
+fn rows_are_printed(rt: HostRuntime) {
+    let alloc = rt.alloc();
+    assert!(rt; is_row(&rt, "a", Kind::Nothing, ("- 0", "a"), alloc));
+    assert!(rt; is_row(&rt, "a", Kind::File(4_194_304), ("f 4194304", "a"), alloc));
+    assert!(rt; is_row(&rt, "a", Kind::Directory, ("d 0", "a"), alloc));
+    for (name, shown) in ODD_NAMES.iter().zip(SHOWN_NAMES) {
+        assert!(rt; is_row(&rt, name, Kind::File(1), ("f 1", shown), alloc));
+    }
+}
+
 /// Beside the empty text.
 const NO_PATHS: &str = "\
 a
@@ -278,4 +312,48 @@ fn commands_at_an_old_name(rt: HostRuntime) {
     };
     assert!(rt; matches!(old.put(None), Course::Put(_)));
     assert!(rt; matches!(old.remove(), Course::Unlink { .. }));
+    let new = Place::New {
+        directory: target(&rt, 0, 2),
+        name: "m",
+    };
+    assert!(rt; matches!(old.add_name(&new), Course::Link { name: "m", .. }));
+    assert!(rt; matches!(old.add_name(&old), Course::Refuse(Refusal::There)));
+    assert!(rt; matches!(old.drop_name(&new), Course::Refuse(Refusal::NoPath)));
+    assert!(rt; matches!(old.drop_name(&old), Course::Refuse(Refusal::There)));
+    let same = Place::Old {
+        directory: target(&rt, 0, 3),
+        name: "m",
+        target: target(&rt, 1, 9),
+        stands: Stands::File,
+    };
+    let course = old.drop_name(&same);
+    assert!(rt;
+        matches!(
+            course,
+            Course::LinkAndUnlink {
+                to_name: "m",
+                name: "n",
+                ..
+            }
+        )
+    );
+}
+
+#[test]
+fn a_directory_stays_in_its_own(rt: HostRuntime) {
+    let old = Place::Old {
+        directory: target(&rt, 0, 2),
+        name: "n",
+        target: target(&rt, 0, 9),
+        stands: Stands::EmptyDirectory,
+    };
+    for (number, is_added) in [(2, true), (3, false), (9, false)] {
+        let new = Place::New {
+            directory: target(&rt, 0, number),
+            name: "m",
+        };
+        let course = old.add_name(&new);
+        assert!(rt; matches!(course, Course::Link { name: "m", .. }) == is_added);
+        assert!(rt; matches!(course, Course::Refuse(Refusal::NoPath)) != is_added);
+    }
 }

@@ -1,7 +1,7 @@
 //! Each command's line once, and lines that aren't read.
 
 use clap::error::ErrorKind;
-use commands::Command;
+use commands::{Command, NewFile};
 use file_commands::{Line, LineError, NewFolder, Request, Wanted};
 use layout::{Group, User};
 use lms_sign::PublicKey;
@@ -52,6 +52,7 @@ fn command_read(command: &Command<'_>) -> u8 {
             path: "/p",
             target: "@1:2",
         } => 7,
+        Command::Details("/p") => 19,
         Command::AddMember { group, user } if group.get() == 64 && user.get() == 63 => 8,
         Command::DropMember { group, user } if group.get() == 95 && user.get() == 0 => 9,
         Command::AddUser { user, key } if is_user_5(*user, key) => 10,
@@ -79,7 +80,21 @@ fn number_of(wanted: &Wanted<'_>) -> u8 {
         Wanted::Admin("f") => 16,
         Wanted::Renew { early: false } => 17,
         Wanted::Renew { early: true } => 18,
+        Wanted::Move {
+            path: "/p",
+            to: "/q",
+        } => 20,
+        Wanted::Users => 21,
+        Wanted::PutTree {
+            path: "/p",
+            dir: "f",
+        } => 22,
+        Wanted::GetTree {
+            path: "/p",
+            dir: "f",
+        } => 23,
         Wanted::Put { .. } | Wanted::Get { .. } | Wanted::Admin(_) => 0,
+        Wanted::PutTree { .. } | Wanted::GetTree { .. } | Wanted::Move { .. } => 0,
     }
 }
 
@@ -134,6 +149,31 @@ fn reads_alone(rt: &impl Abort, alloc: Global, command: &str) -> u8 {
     match &Wanted::read(alloc, &words) {
         Ok(wanted) => number_of(wanted),
         Err(_) => 0,
+    }
+}
+
+/// Commands in whose words a letter stands, and others that came later, each behind its number.
+const LATER: &str = "\
+19 ls -l /p
+19 ls /p --long
+20 mv /p /q
+21 users
+22 put -r f /p
+22 put f /p --recursive
+23 get /p -r f
+";
+
+#[test]
+fn lines_with_letters(rt: HostRuntime) {
+    let alloc = rt.alloc();
+    for line in LATER.lines() {
+        let (number, command) = line.split_once(' ').expect(&rt, "a number");
+        let number = number.parse::<u8>().expect(&rt, "a number");
+        assert!(rt; reads(&rt, alloc, command) == number);
+        assert!(rt; reads_alone(&rt, alloc, command) == number);
+    }
+    for command in ["cat -l /p", "mv /p", "users /p", "mkdir -r /p"] {
+        assert!(rt; reads_alone(&rt, alloc, command) == 0);
     }
 }
 
@@ -318,6 +358,12 @@ fn number_asked(command: &Command<'_>) -> u8 {
     }
 }
 
+/// A file that is put into a directory.
+const FILES: [NewFile<'static>; 1] = [NewFile {
+    name: "a",
+    content: b"",
+}];
+
 #[test]
 fn changes_of_the_table(rt: HostRuntime) {
     let key = key(&rt, rt.alloc());
@@ -339,6 +385,12 @@ fn changes_of_the_table(rt: HostRuntime) {
     assert!(rt; number_asked(&joined) == 3);
     assert!(rt; number_asked(&dropped) == 4);
     assert!(rt; number_asked(&Command::Ls("/")) == 0);
+    assert!(rt;
+        number_asked(&Command::PutAll {
+            directory: "/",
+            files: &FILES
+        }) == 0
+    );
     let several = [
         TableChange::SetKey(user, key),
         TableChange::DropMember(group, member),

@@ -192,15 +192,20 @@ fn wants_memory(rt: &impl Host, heap: &Refusing<Global>, file: &[u8], number: u6
     let mut blocks = match BlockFile::open(heap, storage_of(rt, file), ROOM) {
         Ok(blocks) => blocks,
         Err((error, _)) => {
-            assert!(rt; error == BlockError::Memory);
+            assert!(rt; error == BlockError::Memory && heap.asked(number) >= number);
             return true;
         }
     };
     let result = get_and_put(rt, &mut blocks);
+    let is_refused = heap.asked(number) >= number;
     heap.refuse(0);
     assert!(rt; result.is_ok() || result == Err(BlockError::Memory));
+    assert!(rt;
+        result.is_err() == is_refused,
+        "growth {number} is refused, and nothing told"
+    );
     assert!(rt; get_and_put(rt, &mut blocks).is_ok());
-    result.is_err()
+    is_refused
 }
 
 #[test]
