@@ -5,7 +5,7 @@ use crate::meter::{Heap, Meter};
 use crate::plans::{Planned, place_of};
 use client_verify::{Client, ClientError, Look, Parts, Phase, Step, are_laid};
 use layout::{Digest, User, let_go};
-use leaf_ledger::MemoryDevice;
+use leaf_ledger::{Device, MemoryDevice};
 use lms_sign::{PrivateKey, PublicKey};
 use std::alloc::Global;
 use tests_aids::texts::joined;
@@ -40,7 +40,10 @@ pub(crate) fn client<'h>(
 }
 
 /// The key of a client that is closed.
-pub(crate) fn closed<'h>(rt: &impl Aided, client: HeapClient<'h>) -> PrivateKey<Heap<'h>> {
+pub(crate) fn closed<'h, L: Device + Drop, J: Device + Drop>(
+    rt: &impl Aided,
+    client: Client<L, J, Heap<'h>>,
+) -> PrivateKey<Heap<'h>> {
     let (key, ledger, journal) = found(rt, client.close().last(), "a key");
     let_go(ledger);
     let_go(journal);
@@ -74,7 +77,7 @@ fn telling(rt: &impl Aided, text: &[u8]) -> Said {
 }
 
 /// What was answered. None where memory ran out.
-fn known<T>(rt: &impl Aided, answer: Result<T, ClientError>) -> Option<T> {
+pub(crate) fn known<T>(rt: &impl Aided, answer: Result<T, ClientError>) -> Option<T> {
     match answer {
         Ok(value) => Some(value),
         Err(ClientError::Memory) => None,
@@ -125,10 +128,10 @@ fn look_said(rt: &impl Aided, answer: Result<Look<Heap<'_>>, ClientError>) -> Op
 }
 
 /// The declaration of an operation.
-fn begun<'h>(
+pub(crate) fn begun<'h, L: Device, J: Device>(
     rt: &impl Aided,
     heap: Heap<'h>,
-    client: &mut HeapClient<'h>,
+    client: &mut Client<L, J, Heap<'h>>,
     planned: &Planned<'h>,
 ) -> Result<Vec<u8, Heap<'h>>, ClientError> {
     let Planned { changes, laid } = planned;
@@ -145,9 +148,10 @@ fn begun<'h>(
     client.begin(changes, laid)
 }
 
-fn heard<'h>(
+/// What a client answers to a reply.
+pub(crate) fn heard<'h, L: Device, J: Device>(
     rt: &impl Aided,
-    client: &mut HeapClient<'h>,
+    client: &mut Client<L, J, Heap<'h>>,
     reply: &[u8],
 ) -> Result<Step<Heap<'h>>, ClientError> {
     if client.phase() != Phase::Declared {
@@ -168,9 +172,9 @@ fn handed<'h>(
 }
 
 /// The structure over an accepted reply.
-fn signed<'h>(
+pub(crate) fn signed<'h, L: Device, J: Device>(
     rt: &impl Aided,
-    client: &mut HeapClient<'h>,
+    client: &mut Client<L, J, Heap<'h>>,
 ) -> Result<Vec<u8, Heap<'h>>, ClientError> {
     if !client.ready() {
         rt.fail("no reply is accepted");
@@ -262,7 +266,10 @@ pub(crate) fn lost(rt: &impl Aided, client: &HeapClient<'_>) -> Vec<u8> {
 }
 
 /// The client takes the answer to what it signed.
-pub(crate) fn committed(rt: &impl Aided, client: &mut HeapClient<'_>) {
+pub(crate) fn committed<L: Device, J: Device>(
+    rt: &impl Aided,
+    client: &mut Client<L, J, Heap<'_>>,
+) {
     if client.phase() != Phase::Signed {
         rt.fail("nothing is signed");
     }
