@@ -125,6 +125,46 @@ const ENTRIES: &str = "\
 0 rm / -> 1 lost 1|
 ";
 
+/// Names that are moved, and directories that are told with what stands at each entry.
+const MOVES: &str = "\
+0 mkdir /d -> 0 done|
+0 put /f FILE < hello -> 0 done|
+0 mv /f /g -> 0 done|
+0 ls / -> 0 d 0:3|g 0:4|
+0 cat /g -> 0 hello
+0 mv /g /d/f -> 0 done|
+0 ls -l / -> 0 d 0 0:3 d|
+0 ls -l /d -> 0 f 5 0:4 f|
+0 mv /d /e -> 0 done|
+0 cat /e/f -> 0 hello
+0 mv /e /e/x -> 4 no path|
+0 mv /e /e/f -> 4 no path|
+0 mv /e /e -> 4 there|
+0 mv /e/f / -> 4 there|
+0 mv /e/f @0:4 -> 4 there|
+0 mv /e/f @0:99 -> 4 no path|
+0 mv /e/f /none/x -> 4 no path|
+0 mv @0:4 /x -> 4 no path|
+0 mv /none /x -> 4 no path|
+0 link /far @63:4095 -> 0 done|
+0 ls -l / -> 0 d 0 0:3 e|- 0 63:4095 far|
+0 mv /far /x -> 4 no path|
+0 ls -l /e/f -> 4 no path|
+0 mkdir /e/d -> 0 done|
+0 mv /e/d /d -> 4 no path|
+0 mv /e /e/d/e -> 4 no path|
+0 mv /e/d /e/c -> 0 done|
+0 mv /e/f /e/c/f -> 0 done|
+0 cat /e/c/f -> 0 hello
+0 link /f @0:4 -> 0 done|
+0 mv /e/c/f /f -> 0 done|
+0 cat /f -> 0 hello
+0 mv /e/c/f /f -> 4 no path|
+0 put /g FILE < other -> 0 done|
+0 mv /g /f -> 4 there|
+0 cat /g -> 0 other
+";
+
 /// Users that are listed, and what belongs to another. User 1 declares an operation before it is listed.
 const USERS: &str = "\
 1 ls / -> 3 declined 2|
@@ -216,7 +256,7 @@ const KEYS: &str = "\
 #[test]
 fn commands_of_one(rt: HostRuntime) {
     let rt = (rt, Here);
-    for table in [FILES, DIRECTORIES, NO_PATHS, LINKS, ENTRIES] {
+    for table in [FILES, DIRECTORIES, NO_PATHS, LINKS, MOVES, ENTRIES] {
         all_end_in_town(&rt, 1, table);
     }
 }

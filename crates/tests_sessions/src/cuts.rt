@@ -13,6 +13,9 @@ use lms_sign::PublicKey;
 use tests_aids::{Aided, found, given};
 use wire::RequestKind;
 
+/// So many users there may be.
+const USERS: u8 = 64;
+
 /// What is asked for.
 #[derive(Clone, Copy)]
 enum Asked {
@@ -263,7 +266,7 @@ fn is_cut(rt: &impl Aided, course: &mut Course, row: &Row, cut: Cut) -> bool {
     let name = course.names;
     let path = given(rt, format!(in rt.alloc(); "/f{name}"), "memory");
     prepare(rt, course, row.cut, &path);
-    let user = found(rt, User::new(name % 64), "a user");
+    let user = found(rt, User::new(name % USERS), "a user");
     let key = course.town.pinned;
     let one = command_of(row.cut, &path, user, key);
     let other = command_of(row.next, &path, user, key);

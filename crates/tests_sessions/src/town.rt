@@ -109,13 +109,28 @@ fn answer_text(rt: &impl Aided, answer: &Answer<Global>) -> Vec<u8> {
     }
 }
 
-/// What a session ends a command with.
+/// What a session is asked for.
+#[derive(Clone, Copy)]
+pub(crate) enum Deed<'a> {
+    /// A command.
+    Run(&'a Command<'a>),
+    /// A command, in the view that is there.
+    Tell(&'a Command<'a>),
+    /// Another name in the place of this one.
+    Rename(&'a str, &'a str),
+}
+
+/// What a session ends with that is asked for this.
 fn ended<T: Transport<Global>>(
     rt: &impl Aided,
     session: &mut MemorySession<T>,
-    command: &Command<'_>,
+    deed: Deed<'_>,
 ) -> Outcome {
-    let answer = session.run(command);
+    let answer = match deed {
+        Deed::Run(command) => session.run(command),
+        Deed::Tell(command) => session.tell(command),
+        Deed::Rename(path, to) => session.rename(path, to),
+    };
     Outcome {
         resumed: resumed_text(rt, session.resumed()),
         printed: answer_text(rt, &answer),
@@ -123,16 +138,16 @@ fn ended<T: Transport<Global>>(
     }
 }
 
-/// A process that carries a command out over this client and transport, and maybe a second one: what each ends with.
+/// A process that does this over this client and transport, and maybe a second thing: what each ends with.
 fn process<T: Transport<Global>>(
     rt: &impl Aided,
     client: MemoryClient,
     transport: T,
-    command: &Command<'_>,
-    second: Option<&Command<'_>>,
+    deed: Deed<'_>,
+    second: Option<Deed<'_>>,
 ) -> (Outcome, Option<Outcome>, MemoryClient, T) {
     let mut session = Session::new(rt.alloc(), client, transport);
-    let outcome = ended(rt, &mut session, command);
+    let outcome = ended(rt, &mut session, deed);
     let other = match second {
         Some(second) => Some(ended(rt, &mut session, second)),
         None => None,
@@ -210,12 +225,12 @@ impl Town {
         }
     }
 
-    /// A process of a user carries a command out over this transport: what it ends with.
-    pub(crate) fn run_over<T: Transport<Global>>(
+    /// A process of a user does this over this transport: what it ends with.
+    pub(crate) fn do_over<T: Transport<Global>>(
         &mut self,
         rt: &impl Aided,
         user: User,
-        command: &Command<'_>,
+        deed: Deed<'_>,
         transport: T,
     ) -> (Outcome, T) {
         let place = usize::from(user.get());
@@ -223,7 +238,7 @@ impl Town {
         match opened(rt, user, self.pinned, kept) {
             Ok(client) => {
                 let (outcome, _none, client, transport) = process(
-                    rt, client, transport, command, None,
+                    rt, client, transport, deed, None,
                 );
                 self.come_home(place, closed(rt, client));
                 (outcome, transport)
@@ -235,6 +250,17 @@ impl Town {
         }
     }
 
+    /// A process of a user carries a command out over this transport: what it ends with.
+    pub(crate) fn run_over<T: Transport<Global>>(
+        &mut self,
+        rt: &impl Aided,
+        user: User,
+        command: &Command<'_>,
+        transport: T,
+    ) -> (Outcome, T) {
+        self.do_over(rt, user, Deed::Run(command), transport)
+    }
+
     /// A process of user 0 carries out a command over the server in memory: what it ends with.
     pub(crate) fn run_one(&mut self, rt: &impl Aided, command: &Command<'_>) -> Outcome {
         let server = self.leave_server(rt);
@@ -243,11 +269,11 @@ impl Town {
         outcome
     }
 
-    /// One session of user 0 carries out both commands over the server in memory: what each ends with.
-    pub(crate) fn run_both(
+    /// One session of user 0 does both over the server in memory: what each ends with.
+    pub(crate) fn do_both(
         &mut self,
         rt: &impl Aided,
-        (one, other): (&Command<'_>, &Command<'_>),
+        (one, other): (Deed<'_>, Deed<'_>),
     ) -> (Outcome, Outcome) {
         let kept = self.leave_home(rt, 0);
         let server = self.leave_server(rt);
@@ -255,6 +281,15 @@ impl Town {
         let (first, second, client, server) = process(rt, client, server, one, Some(other));
         self.come_home(0, closed(rt, client));
         self.bring_back(server);
-        (first, found(rt, second, "the second command"))
+        (first, found(rt, second, "the second one"))
+    }
+
+    /// One session of user 0 carries out both commands over the server in memory: what each ends with.
+    pub(crate) fn run_both(
+        &mut self,
+        rt: &impl Aided,
+        (one, other): (&Command<'_>, &Command<'_>),
+    ) -> (Outcome, Outcome) {
+        self.do_both(rt, (Deed::Run(one), Deed::Run(other)))
     }
 }

@@ -3,7 +3,7 @@
 
 use crate::line::{Line as Connected, Turn};
 use crate::memory::Trouble;
-use crate::town::{Outcome, Town, town_of};
+use crate::town::{Deed, Outcome, Town, town_of};
 use commands::Command;
 use file_commands::{Line, Request, Wanted};
 use layout::{User, let_go};
@@ -55,8 +55,11 @@ fn run_line<'a, T: Transport<Global>>(
             &Command::Cat(path),
             transport,
         ),
+        Wanted::Move { path, to } => town.do_over(rt, line.user, Deed::Rename(path, to), transport),
         Wanted::Key | Wanted::Status | Wanted::Renew { .. } => rt.fail("no command over a server"),
         Wanted::Batch { .. } | Wanted::Admin(_) => rt.fail("several commands"),
+        Wanted::PutTree { .. } | Wanted::GetTree { .. } => rt.fail("several commands"),
+        Wanted::Users => rt.fail("no command of a session"),
     }
 }
 
