@@ -2,7 +2,7 @@
 
 _sundr() {
     local word=${COMP_WORDS[COMP_CWORD]} before=${COMP_WORDS[COMP_CWORD - 1]} command= at place=0
-    local commands="init key status ls cat put get mkdir rm link adduser setkey addmember dropmember admin renew batch help"
+    local commands="init key status users ls cat put get mkdir rm mv link adduser setkey addmember dropmember admin renew batch help"
     # The command, and how many words come between it and this one.
     for ((at = 1; at < COMP_CWORD; at++)); do
         if [[ -n $command ]]; then
@@ -27,7 +27,11 @@ _sundr() {
             esac
             ;;
         init.0) mapfile -t COMPREPLY < <(compgen -d -- "$word") ;;
-        init.2 | put.1 | get.1 | admin.0) mapfile -t COMPREPLY < <(compgen -f -- "$word") ;;
+        put.0 | get.0)
+            mapfile -t COMPREPLY < <(compgen -W "--recursive --help" -- "$word"; compgen -f -- "$word")
+            ;;
+        ls.*) mapfile -t COMPREPLY < <(compgen -W "--long --help" -- "$word") ;;
+        init.2 | put.[12] | get.[12] | admin.0) mapfile -t COMPREPLY < <(compgen -f -- "$word") ;;
         renew.*) mapfile -t COMPREPLY < <(compgen -W "--early --help" -- "$word") ;;
         batch.*) mapfile -t COMPREPLY < <(compgen -W "--stop --help" -- "$word") ;;
         help.0) mapfile -t COMPREPLY < <(compgen -W "$commands" -- "$word") ;;
@@ -39,11 +43,12 @@ complete -F _sundr sundr
 _sundrd() {
     local word=${COMP_WORDS[COMP_CWORD]}
     case ${COMP_WORDS[COMP_CWORD - 1]} in
+        --keep) mapfile -t COMPREPLY < <(compgen -d -- "$word") ;;
         --super | --log) mapfile -t COMPREPLY < <(compgen -f -- "$word") ;;
         --listen | --connections | --at-once | --idle | --room) COMPREPLY=() ;;
         *)
             mapfile -t COMPREPLY < <(
-                compgen -W "--listen --super --log --connections --at-once --idle --room --help --version" -- "$word"
+                compgen -W "--listen --super --keep --log --connections --at-once --idle --room --help --version" -- "$word"
             )
             ;;
     esac
