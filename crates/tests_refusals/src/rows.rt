@@ -58,10 +58,14 @@ fn each_growth_refused_blocks(rt: HostRuntime) {
     sweep_blocks(&rt).is(host, 46, 1, b"p");
 }
 
-/// None goes untold.
+/// None goes untold: by status 9, by an end of the conversation, or as the server isn't begun.
 #[test]
 fn each_growth_refused_requests(rt: HostRuntime) {
     let host = &(&rt, Here);
-    serve_blocks(&rt).is(host, 22, 0, b"");
-    serve_calls(&rt).is(host, 50, 0, b"");
+    let (blocks, how) = serve_blocks(&rt);
+    blocks.is(host, 36, 0, b"");
+    how.are(host, 6, 24, 6);
+    let (calls, how) = serve_calls(&rt);
+    calls.is(host, 74, 0, b"");
+    how.are(host, 37, 31, 6);
 }

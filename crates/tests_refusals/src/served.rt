@@ -1,4 +1,4 @@
-//! The whole server, to which all requests come over one connection.
+//! The whole server, to which all requests come over one connection, and then once more over another one.
 
 use crate::here::Here;
 use crate::meter::{Heap, MOST, Meter, Swept};
@@ -6,7 +6,7 @@ use block_store::Store;
 use connection::MemoryConnection;
 use layout::let_go;
 use lms_sign::PublicKey;
-use server_workers::{OpenGate, serve};
+use server_workers::{Limits, OpenGate, serve_within};
 use std::alloc::Global;
 use std::process::Abort;
 use std::sync::Wait;
@@ -60,24 +60,79 @@ fn bodies(rt: &impl Aided, bytes: &[u8]) -> Vec<Vec<u8>> {
     rt.fail("too many frames")
 }
 
-/// All that is replied to these requests where the growth of a number is refused. None where the server isn't begun.
+/// What is replied over the first connection, and over the second one.
+#[derive(Drop)]
+struct BothReplies {
+    first: Vec<Vec<u8>>,
+    second: Vec<Vec<u8>>,
+}
+
+/// How often it was told by a status that memory ran out, how often a conversation ended, and how often the server
+/// wasn't begun.
+#[derive(Clone, Copy, Debug, PartialEq, Eq)]
+pub(crate) struct Kinds {
+    pub(crate) statuses: u32,
+    pub(crate) ends: u32,
+    pub(crate) unbegun: u32,
+}
+
+impl Kinds {
+    /// None was told yet.
+    const NONE: Kinds = Kinds {
+        statuses: 0,
+        ends: 0,
+        unbegun: 0,
+    };
+
+    /// So many were told in each way.
+    pub(crate) fn are(self, rt: &impl Aided, statuses: u32, ends: u32, unbegun: u32) {
+        let expected = Kinds {
+            statuses,
+            ends,
+            unbegun,
+        };
+        if self != expected {
+            rt.fail(format_args!("{self:?}"));
+        }
+    }
+}
+
+/// The second connection is taken once the first one has ended.
+const ONE_BY_ONE: Limits = Limits {
+    most: 2,
+    at_once: 1,
+};
+
+/// All that is replied to these requests, and to them once more, where the growth of a number is refused. None where
+/// the server isn't begun.
 fn replies<R: ThreadHost>(
     rt: &R,
     heap: Heap<'_>,
     pinned: PublicKey,
     requests: &[u8],
     number: u64,
-) -> Option<Vec<Vec<u8>>> {
+) -> Option<BothReplies> {
     let host = &(rt, Here);
-    let mut output = Vec::new(rt.alloc());
+    let (mut first, mut second) = (Vec::new(rt.alloc()), Vec::new(rt.alloc()));
     let mut connections = Vec::new(rt.alloc());
-    let connection = MemoryConnection::new(requests, 1000, &mut output);
+    let connection = MemoryConnection::new(requests, 1000, &mut first);
+    given(host, connections.push(connection), "memory");
+    let connection = MemoryConnection::new(requests, 1000, &mut second);
     given(host, connections.push(connection), "memory");
     let connections = connections.into_iter();
     let log = Vec::new(rt.alloc());
     let store = given(host, Store::new(heap), "memory");
     heap.refuse(number);
-    let served = serve(rt, heap, &OpenGate, connections, 1, &store, pinned, log);
+    let served = serve_within(
+        rt,
+        heap,
+        &OpenGate,
+        connections,
+        ONE_BY_ONE,
+        &store,
+        pinned,
+        log,
+    );
     let is_begun = served.is_ok();
     if let Ok(served) = &served {
         let is_whole = served.flushed && served.unserved == 0;
@@ -85,15 +140,19 @@ fn replies<R: ThreadHost>(
     }
     let_go(served);
     if !is_begun {
-        check(host, output.is_empty(), "it never began");
+        check(
+            host,
+            first.is_empty() && second.is_empty(),
+            "it never began",
+        );
         return None;
     }
-    Some(bodies(host, &output))
+    let (first, second) = (bodies(host, &first), bodies(host, &second));
+    Some(BothReplies { first, second })
 }
 
-/// Whether one of these replies tells that memory ran out in the place of what is always replied, or the conversation
-/// ends before all of them.
-fn lacks(rt: &impl Aided, replies: &[Vec<u8>], always: &[Vec<u8>]) -> bool {
+/// How many of these replies tell that memory ran out in the place of what is always replied. The others are these.
+fn lacks(rt: &impl Aided, replies: &[Vec<u8>], always: &[Vec<u8>]) -> u32 {
     let mut count = 0u32;
     for (reply, right) in replies.iter().zip(always) {
         if reply.as_slice() == [Status::Memory.number()].as_slice() {
@@ -102,64 +161,105 @@ fn lacks(rt: &impl Aided, replies: &[Vec<u8>], always: &[Vec<u8>]) -> bool {
             check_text(rt, reply, right);
         }
     }
-    if replies.len() < always.len() {
-        count = count.wrapping_add(1);
-    }
-    check(rt, count <= 1, "it is told once");
-    count == 1
+    count
+}
+
+/// Whether both are the same replies.
+fn are_same(replies: &[Vec<u8>], others: &[Vec<u8>]) -> bool {
+    let mut pairs = replies.iter().zip(others);
+    replies.len() == others.len() && pairs.all(|(reply, other)| reply == other)
+}
+
+/// Notes how it was told that memory ran out, which is told once over both connections. What is asked once more after
+/// the first conversation ended is replied as to who asks for the first time, or as to who asks again.
+fn note(
+    rt: &impl Aided,
+    replies: Option<&BothReplies>,
+    always: &BothReplies,
+    kinds: &mut Kinds,
+) -> bool {
+    let Some(BothReplies { first, second }) = replies else {
+        kinds.unbegun = kinds.unbegun.wrapping_add(1);
+        return true;
+    };
+    let is_ended = first.len() < always.first.len();
+    let is_new = is_ended && are_same(second, &always.first);
+    let later = if is_new {
+        &always.first
+    } else {
+        &always.second
+    };
+    let is_later_ended = second.len() < later.len();
+    let told = lacks(rt, first, &always.first).wrapping_add(lacks(rt, second, later));
+    let ends = u32::from(is_ended).wrapping_add(u32::from(is_later_ended));
+    check(rt, told.wrapping_add(ends) <= 1, "it is told once");
+    kinds.statuses = kinds.statuses.wrapping_add(told);
+    kinds.ends = kinds.ends.wrapping_add(ends);
+    told == 1 || ends == 1
 }
 
 /// Refuses the growth of a number: that memory ran out is told once, and what comes after it is replied as always; or
-/// else the conversation ends. True where no growth has this number.
+/// else the conversation ends, and all is asked over the next connection. True where no growth has this number.
 fn is_over<R: ThreadHost>(
     rt: &R,
     heap: Heap<'_>,
     pinned: PublicKey,
     requests: &[u8],
     number: u64,
-    always: &[Vec<u8>],
+    always: &BothReplies,
+    kinds: &mut Kinds,
     swept: &mut Swept,
 ) -> bool {
     let host = &(rt, Here);
     let replied = replies(rt, heap, pinned, requests, number);
     let mut meter = Meter::after(heap, number);
-    let told = match &replied {
-        Some(replied) => lacks(host, replied, always),
-        None => true,
-    };
+    let told = note(host, replied.as_ref(), always, kinds);
     meter.is_again(host, b'a', told);
     swept.is_over(host, &meter)
 }
 
-/// Refuses each growth of a server in turn, to which these requests come over one connection.
-fn sweep<R: ThreadHost>(rt: &R, requests: &[u8], count: usize) -> Swept {
+/// Refuses each growth of a server in turn, to which these requests come over one connection, and once more over a
+/// second one. `again` are the statuses that are replied then.
+fn sweep<R: ThreadHost>(rt: &R, requests: &[u8], statuses: &[u8], again: &[u8]) -> (Swept, Kinds) {
     let host = &(rt, Here);
     let heap = Refusing::new(rt.alloc());
     let pinned = key_of(host, 0).public();
     let always = found(host, replies(rt, &heap, pinned, requests, 0), "a server");
-    check(host, always.len() == count, "a reply to each");
+    have_statuses(host, &always.first, statuses);
+    have_statuses(host, &always.second, again);
+    let mut kinds = Kinds::NONE;
     let mut swept = Swept::new(host);
     for number in 1..MOST {
-        if is_over(rt, &heap, pinned, requests, number, &always, &mut swept) {
-            return swept;
+        if is_over(
+            rt, &heap, pinned, requests, number, &always, &mut kinds, &mut swept,
+        ) {
+            return (swept, kinds);
         }
     }
     host.fail("too many growths")
 }
 
-/// The empty block, put twice and got twice: what memory was lacking for is stored then.
-pub(crate) fn serve_blocks<R: ThreadHost>(rt: &R) -> Swept {
-    let host = &(rt, Here);
-    let requests = joined(host, &[PUT_EMPTY, PUT_EMPTY, GET_EMPTY, GET_EMPTY]);
-    sweep(rt, &requests, 4)
+/// The replies have these statuses.
+fn have_statuses(rt: &impl Aided, replies: &[Vec<u8>], statuses: &[u8]) {
+    check(rt, replies.len() == statuses.len(), "a reply to each");
+    for (reply, status) in replies.iter().zip(statuses) {
+        check(rt, reply.first() == Some(status), "its status");
+    }
 }
 
-/// One certificate three times, and then one structure twice.
-pub(crate) fn serve_calls<R: ThreadHost>(rt: &R) -> Swept {
+/// The empty block, put twice and got twice: what memory was lacking for is stored then.
+pub(crate) fn serve_blocks<R: ThreadHost>(rt: &R) -> (Swept, Kinds) {
+    let host = &(rt, Here);
+    let requests = joined(host, &[PUT_EMPTY, PUT_EMPTY, GET_EMPTY, GET_EMPTY]);
+    sweep(rt, &requests, &[0, 0, 0, 0], &[0, 0, 0, 0])
+}
+
+/// One certificate three times, and then one structure twice. Once that is committed, the certificate's number is used.
+pub(crate) fn serve_calls<R: ThreadHost>(rt: &R) -> (Swept, Kinds) {
     let host = &(rt, Here);
     let (update, commit) = first_calls(host);
     let update = joined(host, &[UPDATE, &update]);
     let commit = joined(host, &[COMMIT, &commit]);
     let requests = joined(host, &[&update, &update, &update, &commit, &commit]);
-    sweep(rt, &requests, 5)
+    sweep(rt, &requests, &[0, 0, 0, 0, 0], &[4, 4, 4, 0, 0])
 }
