@@ -1,7 +1,8 @@
 //! A device over a real file beside one in memory, and what it takes of memory.
 
 use client_journal::{Journal, Record};
-use leaf_ledger::{Device, DeviceError, FileDevice, MemoryDevice};
+use leaf_ledger::{Device, DeviceError, FileDevice, Ledger, MemoryDevice};
+use lms_sign::{PublicKey, burn};
 use std::alloc::Global;
 use std::fs::{self, File};
 use std::process::Abort;
@@ -14,6 +15,10 @@ const PATH: &str = "leaf_ledger_file_test/device";
 const ROOM_FOLDER: &str = "leaf_ledger_room_test";
 
 const ROOM_PATH: &str = "leaf_ledger_room_test/device";
+
+const LEDGER_FOLDER: &str = "ledger_room_test";
+
+const LEDGER_PATH: &str = "ledger_room_test/ledger";
 
 const JOURNAL_FOLDER: &str = "journal_room_test";
 
@@ -123,6 +128,44 @@ fn within_its_room_a_file_takes_no_memory(rt: HostRuntime) {
     assert!(rt; device.text().len() == 1080 + 16_384 && device.sync().is_ok());
     assert!(rt; device.reserve(32_768).is_err() && device.faults() == 1);
     let _ = fs::remove_dir_all(&rt, ROOM_FOLDER);
+}
+
+/// Takes a leaf and gives it back spent: its number. None where none is handed out.
+fn burn_next<D: Device>(ledger: &mut Ledger<D>) -> Option<u32> {
+    if !ledger.usable() {
+        return None;
+    }
+    match ledger.take() {
+        Ok(leaf) => {
+            let number = leaf.number();
+            ledger.settle(burn(leaf));
+            Some(number)
+        }
+        Err(_) => None,
+    }
+}
+
+/// A new ledger over a file is made without memory, and hands out leaves and takes them back.
+#[test]
+fn leaves_of_a_file_take_no_memory(rt: HostRuntime) {
+    let heap = Refusing::new(rt.alloc());
+    let _ = fs::remove_dir_all(&rt, LEDGER_FOLDER);
+    fs::create_dir(&rt, LEDGER_FOLDER).expect(&rt, "the folder is made");
+    let opened = FileDevice::open(&rt, &heap, LEDGER_FOLDER, LEDGER_PATH);
+    let device = opened.expect(&rt, "the file is made");
+    let mut bytes = [7; 56];
+    bytes[..8].copy_from_slice(&[0, 0, 0, 6, 0, 0, 0, 3]);
+    let key = PublicKey::from_bytes(bytes).expect(&rt, "a key");
+    heap.refuse_all();
+    let Ok(mut ledger) = Ledger::open(device, &key) else {
+        panic!(rt; "the ledger isn't made");
+    };
+    for number in 0..3u32 {
+        assert!(rt; burn_next(&mut ledger) == Some(number));
+    }
+    let text = ledger.device().text();
+    assert!(rt; text.len() == 1080 && text[56..60] == [1, 1, 1, 0]);
+    let _ = fs::remove_dir_all(&rt, LEDGER_FOLDER);
 }
 
 /// A new journal over a file is made without memory, and so is the record for which it made room.
