@@ -46,6 +46,9 @@ const JOURNAL_SIZE: u64 = 1024 * MOST_KEYS as u64 * 20_480;
 /// The gate of a record that is there.
 const OPEN: u8 = 1;
 
+/// The kind of a record that has a certificate.
+const CERTIFICATE: u8 = 1;
+
 /// The mode of a file that its owner alone reads and writes.
 pub(crate) const OWNERS_ALONE: u32 = 0o600;
 
@@ -236,32 +239,53 @@ pub(crate) fn read_keys(rt: &HostRuntime, folder: &str, user: User) -> Result<Ke
     Ok(Keys { seeds, pinned })
 }
 
+/// A signed text of a journal.
+#[derive(Clone, Copy)]
+struct Signed<'a> {
+    kind: u8,
+    text: &'a [u8],
+}
+
 /// The first signed text of a journal's records, and those behind it, if there is one.
-fn first_signed(records: &[u8]) -> Option<(&[u8], &[u8])> {
+fn first_signed(records: &[u8]) -> Option<(Signed<'_>, &[u8])> {
     let (head, rest) = records.split_at(RECORD_HEAD.min(records.len()));
-    let [OPEN, _kind, a, b, c, d] = head else {
+    let [OPEN, kind, a, b, c, d] = head else {
         return None;
     };
     let size = u32::from_be_bytes([*a, *b, *c, *d]) as usize;
     if size > rest.len() {
         return None;
     }
-    Some(rest.split_at(size))
+    let (text, behind) = rest.split_at(size);
+    Some((Signed { kind: *kind, text }, behind))
 }
 
-/// The text that was signed last by a journal, with its signature; nothing where it has none.
-pub(crate) fn last_signed(journal: &[u8]) -> &[u8] {
+/// The text that was signed last by a journal, with its signature, or the last one of a kind that is said; nothing where
+/// it has none.
+fn last_of(journal: &[u8], wanted: Option<u8>) -> &[u8] {
     let (mut rest, mut last) = (journal, &journal[..0]);
     for _ in 0..journal.len() {
         match first_signed(rest) {
             Some((signed, behind)) => {
-                last = signed;
+                if wanted.unwrap_or(signed.kind) == signed.kind {
+                    last = signed.text;
+                }
                 rest = behind;
             }
             None => break,
         }
     }
     last
+}
+
+/// The text that was signed last by a journal, with its signature; nothing where it has none.
+pub(crate) fn last_signed(journal: &[u8]) -> &[u8] {
+    last_of(journal, None)
+}
+
+/// The certificate that was signed last by a journal, with its signature; nothing where it has none.
+pub(crate) fn last_declared(journal: &[u8]) -> &[u8] {
+    last_of(journal, Some(CERTIFICATE))
 }
 
 /// The number of the leaf that a signature is of, which it begins with.
@@ -339,12 +363,11 @@ pub(crate) fn read_kept(
     kept_key(rt.alloc(), seed.seed, seed.id, &ledger, &kept)
 }
 
-/// A file of the owner's alone, with these bytes.
+/// A new file of the owner's alone, with these bytes. No link is followed.
 fn written(rt: &HostRuntime, path: &str, bytes: &[u8]) -> io::Result<File> {
     let mut file = OpenOptions::new()
         .write(true)
-        .create(true)
-        .truncate(true)
+        .create_new(true)
         .mode(OWNERS_ALONE)
         .open(rt, path)?;
     file.write_all(bytes)?;
@@ -355,6 +378,8 @@ fn written(rt: &HostRuntime, path: &str, bytes: &[u8]) -> io::Result<File> {
 fn put_in_place(rt: &HostRuntime, folder: &str, name: &str, bytes: &[u8]) -> Option<()> {
     let beside = format!(in rt.alloc(); "{folder}/{name}.new").ok()?;
     let path = path_in(rt.alloc(), folder, name).ok()?;
+    // What a command left that was stopped.
+    let _ = fs::remove_file(rt, &beside);
     let _file = written(rt, &beside, bytes).ok()?;
     fs::rename(rt, &beside, &path).ok()
 }

@@ -2,11 +2,10 @@
 
 use crate::folder::content_hindrance;
 use crate::hindrance::Hindrance;
-use crate::reaching::Server;
+use crate::into_target;
 use crate::target::Target;
-use crate::tree::{IN_THE_WAY, OWN_FOLDER, Own, Stopped, Tally, joined, place_word, run, show};
-use crate::{OwnSession, into_target};
-use commands::{Answer, Command, Kind, Row};
+use crate::tree::{Context, IN_THE_WAY, OWN_FOLDER, Stopped, Tally, joined, place_word};
+use commands::{Answer, Command, Kind, Row, path_of};
 use directory::Target as Place;
 use layout::let_go;
 use std::alloc::Global;
@@ -23,68 +22,80 @@ struct Pending {
 
 /// What is still to be written, and what was.
 #[derive(Drop)]
-struct Getting {
+struct Getting<'a, 's, 'c, H: Net<Stream = TcpStream>> {
+    context: Context<'a, 's, 'c, H>,
     pending: Vec<Pending>,
     /// The directories that were met: each is written once, under the name that was met first.
     met: Vec<Place>,
-    own: Own,
     tally: Tally,
 }
 
-/// Makes a folder where there is none. Why nothing can be written into what is there, if it can't: it is no folder, or
-/// the user's own, whose files stay as they are.
-fn enter(
-    rt: &HostRuntime,
-    own: Own,
-    folder: &str,
-    there: io::Result<Metadata>,
-) -> Result<Option<&'static str>, Hindrance> {
-    match there {
-        Ok(found) if !found.is_dir() => Ok(Some(IN_THE_WAY)),
-        Ok(found) if own.is(&found) => Ok(Some(OWN_FOLDER)),
-        Ok(_) => Ok(None),
-        Err(fault) if fault.kind() == ErrorKind::NotFound => match fs::create_dir(rt, folder) {
-            Ok(()) => Ok(None),
-            Err(fault) => Err(content_hindrance(&fault)),
-        },
-        Err(fault) => Err(content_hindrance(&fault)),
+/// What stands before the last name of a path, as a path, and that name.
+fn split_last(path: &str) -> Option<(&str, &str)> {
+    let (above, name) = path.rsplit_once('/')?;
+    Some((if above.is_empty() { "/" } else { above }, name))
+}
+
+/// The place at which a path begins, where it leads through no name.
+fn start_alone(path: &str) -> Option<Place> {
+    let path = path_of(path)?;
+    let start = path.start();
+    if path.names().is_empty() {
+        Some(start)
+    } else {
+        None
     }
 }
 
-/// Writes the bytes of the file at a place into one of this system.
-fn get_file<H: Net<Stream = TcpStream>>(
-    rt: &HostRuntime,
-    server: &Server<'_, H>,
-    session: &mut OwnSession<'_, H>,
-    place: Place,
+/// The place to which a path leads, in the view of the last look; none where that isn't told.
+fn place_at<H: Net<Stream = TcpStream>>(
+    context: &mut Context<'_, '_, '_, H>,
     path: &str,
-) -> Result<(), Stopped> {
-    let word = place_word(rt.alloc(), place)?;
-    let target = Target::open(rt, path)?;
-    let shown = show(server, session, &Command::Cat(&word));
-    match into_target(rt, target, shown)? {
-        Answer::Done => Ok(()),
-        other => Err(Stopped::Answered(other)),
+) -> Option<Place> {
+    if let Some(place) = start_alone(path) {
+        return Some(place);
+    }
+    let (above, name) = split_last(path)?;
+    match context.show(&Command::Ls(above)) {
+        Answer::Listing(entries) => entries.get(name.as_bytes()),
+        _ => None,
     }
 }
 
-/// The entries of a directory, in the view of the last look.
-fn rows_at<H: Net<Stream = TcpStream>>(
-    rt: &HostRuntime,
-    server: &Server<'_, H>,
-    session: &mut OwnSession<'_, H>,
-    place: Place,
-) -> Result<Vec<Row<Global>>, Stopped> {
-    let word = place_word(rt.alloc(), place)?;
-    match show(server, session, &Command::Details(&word)) {
-        Answer::Details(rows) => Ok(rows),
-        other => Err(Stopped::Answered(other)),
+impl<H: Net<Stream = TcpStream>> Getting<'_, '_, '_, H> {
+    /// Makes a folder where there is none. Why nothing can be written into what is there, if it can't: it is no folder,
+    /// or the user's own, whose files stay as they are.
+    fn enter(
+        &self,
+        folder: &str,
+        there: io::Result<Metadata>,
+    ) -> Result<Option<&'static str>, Hindrance> {
+        match there {
+            Ok(found) if !found.is_dir() => Ok(Some(IN_THE_WAY)),
+            Ok(found) if self.context.is_own(&found) => Ok(Some(OWN_FOLDER)),
+            Ok(_) => Ok(None),
+            Err(fault) if fault.kind() == ErrorKind::NotFound => {
+                match fs::create_dir(self.context.rt, folder) {
+                    Ok(()) => Ok(None),
+                    Err(fault) => Err(content_hindrance(&fault)),
+                }
+            }
+            Err(fault) => Err(content_hindrance(&fault)),
+        }
     }
-}
 
-impl Getting {
+    /// The entries of a directory, in the view of the last look.
+    fn rows_at(&mut self, place: Place) -> Result<Vec<Row<Global>>, Stopped> {
+        let word = place_word(self.context.rt.alloc(), place)?;
+        match self.context.show(&Command::Details(&word)) {
+            Answer::Details(rows) => Ok(rows),
+            other => Err(Stopped::Answered(other)),
+        }
+    }
+
     /// A directory is written later, into a folder that is made, unless it was met before.
-    fn add(&mut self, rt: &HostRuntime, place: Place, folder: String) -> Result<(), Stopped> {
+    fn add(&mut self, place: Place, folder: String) -> Result<(), Stopped> {
+        let rt = self.context.rt;
         if self.met.iter().any(|met| *met == place) {
             self.tally
                 .leave_out(rt, &folder, "the directory has another name, too");
@@ -92,7 +103,7 @@ impl Getting {
         }
         // No link is followed that somebody may have had made for what is written here.
         let there = fs::symlink_metadata(rt, &folder);
-        if let Some(why) = enter(rt, self.own, &folder, there)? {
+        if let Some(why) = self.enter(&folder, there)? {
             self.tally.leave_out(rt, &folder, why);
             return Ok(());
         }
@@ -101,29 +112,24 @@ impl Getting {
         Ok(())
     }
 
-    /// Writes the bytes of the file at a place, which is counted.
-    fn take_file<H: Net<Stream = TcpStream>>(
-        &mut self,
-        rt: &HostRuntime,
-        server: &Server<'_, H>,
-        session: &mut OwnSession<'_, H>,
-        place: Place,
-        path: &str,
-    ) -> Result<(), Stopped> {
-        get_file(rt, server, session, place, path)?;
-        self.tally.count(rt, 1);
-        Ok(())
+    /// Writes the bytes of the file at a place into one of this system, which is counted.
+    fn take_file(&mut self, place: Place, path: &str) -> Result<(), Stopped> {
+        let rt = self.context.rt;
+        let word = place_word(rt.alloc(), place)?;
+        let target = Target::open(rt, path)?;
+        let shown = self.context.show(&Command::Cat(&word));
+        match into_target(rt, target, shown)? {
+            Answer::Done => {
+                self.tally.count(rt, 1);
+                Ok(())
+            }
+            other => Err(Stopped::Answered(other)),
+        }
     }
 
     /// Writes what an entry of a directory stands for. What this system doesn't let be written is left out.
-    fn take<H: Net<Stream = TcpStream>>(
-        &mut self,
-        rt: &HostRuntime,
-        server: &Server<'_, H>,
-        session: &mut OwnSession<'_, H>,
-        row: &Row<Global>,
-        folder: &str,
-    ) -> Result<(), Stopped> {
+    fn take(&mut self, row: &Row<Global>, folder: &str) -> Result<(), Stopped> {
+        let rt = self.context.rt;
         let path = joined(rt.alloc(), folder, row.entry().name().as_str())?;
         let place = row.entry().target();
         match row.kind() {
@@ -132,63 +138,47 @@ impl Getting {
                 Ok(())
             }
             Kind::File(_) => {
-                let done = self.take_file(rt, server, session, place, &path);
+                let done = self.take_file(place, &path);
                 self.tally.past(rt, &path, done)
             }
             Kind::Directory => {
                 let folder = joined(rt.alloc(), folder, row.entry().name().as_str())?;
-                let done = self.add(rt, place, folder);
+                let done = self.add(place, folder);
                 self.tally.past(rt, &path, done)
             }
         }
     }
 
     /// Writes what the entries of a directory stand for.
-    fn take_all<H: Net<Stream = TcpStream>>(
-        &mut self,
-        rt: &HostRuntime,
-        server: &Server<'_, H>,
-        session: &mut OwnSession<'_, H>,
-        rows: &[Row<Global>],
-        folder: &str,
-    ) -> Result<(), Stopped> {
+    fn take_all(&mut self, rows: &[Row<Global>], folder: &str) -> Result<(), Stopped> {
         for row in rows {
-            self.take(rt, server, session, row, folder)?;
+            self.take(row, folder)?;
         }
         Ok(())
     }
 
     /// Writes the directory that was put off last.
-    fn go_on<H: Net<Stream = TcpStream>>(
-        &mut self,
-        rt: &HostRuntime,
-        server: &Server<'_, H>,
-        session: &mut OwnSession<'_, H>,
-        next: &Pending,
-    ) -> Result<(), Stopped> {
-        let rows = rows_at(rt, server, session, next.place)?;
-        let gone = self.take_all(rt, server, session, &rows, &next.folder);
+    fn go_on(&mut self, next: &Pending) -> Result<(), Stopped> {
+        let rows = self.rows_at(next.place)?;
+        let gone = self.take_all(&rows, &next.folder);
         let_go(rows);
         gone
     }
 
-    /// Writes these entries, and then each directory that was put off.
-    fn go<H: Net<Stream = TcpStream>>(
-        &mut self,
-        rt: &HostRuntime,
-        server: &Server<'_, H>,
-        session: &mut OwnSession<'_, H>,
-        rows: &[Row<Global>],
-        folder: &str,
-    ) -> Result<(), Stopped> {
-        if let Some(why) = enter(rt, self.own, folder, fs::metadata(rt, folder))? {
+    /// Writes the entries of the directory at a path, and then each directory that was put off.
+    fn go(&mut self, rows: &[Row<Global>], path: &str, folder: &str) -> Result<(), Stopped> {
+        let rt = self.context.rt;
+        if let Some(why) = self.enter(folder, fs::metadata(rt, folder))? {
             self.tally.leave_out(rt, folder, why);
             return Ok(());
         }
-        self.take_all(rt, server, session, rows, folder)?;
+        if let Some(place) = place_at(&mut self.context, path) {
+            self.met.push(place)?;
+        }
+        self.take_all(rows, folder)?;
         for _ in 0..u64::MAX {
             match self.pending.pop() {
-                Some(next) => self.go_on(rt, server, session, &next)?,
+                Some(next) => self.go_on(&next)?,
                 None => break,
             }
         }
@@ -199,23 +189,23 @@ impl Getting {
 /// Writes all that stands below a directory into a folder of this system, which is made where there is none. All of it is
 /// of the view of one look.
 pub(crate) fn get_tree<H: Net<Stream = TcpStream>>(
-    rt: &HostRuntime,
-    server: &Server<'_, H>,
-    session: &mut OwnSession<'_, H>,
-    own: Own,
-    (path, folder): (&str, &str),
+    context: Context<'_, '_, '_, H>,
+    path: &str,
+    folder: &str,
 ) -> Result<Answer<Global>, Hindrance> {
-    let rows = match run(rt, server, session, &Command::Details(path)) {
+    let mut context = context;
+    let rt = context.rt;
+    let rows = match context.run(&Command::Details(path)) {
         Answer::Details(rows) => rows,
         other => return Ok(other),
     };
     let mut getting = Getting {
+        context,
         pending: Vec::new(rt.alloc()),
         met: Vec::new(rt.alloc()),
-        own,
         tally: Tally::new(),
     };
-    let gone = getting.go(rt, server, session, &rows, folder);
+    let gone = getting.go(&rows, path, folder);
     let_go(rows);
     let tally = getting.tally;
     let_go(getting);

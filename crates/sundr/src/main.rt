@@ -10,6 +10,7 @@ mod folder;
 mod getting;
 mod hindrance;
 mod init;
+mod lost;
 mod pace;
 mod place;
 mod putting;
@@ -43,6 +44,7 @@ use kept_blocks::{Keeping, KeptBlocks};
 use layout::{User, let_go};
 use leaf_ledger::{Device, FileDevice};
 use lms_sign::{PrivateKey, PublicKey};
+use lost::tell_lost;
 use place::{Place, check_place, tell_place};
 use putting::put_tree;
 use reaching::{Contact, Reach, Server, Stream};
@@ -58,7 +60,7 @@ use std::process::ExitCode;
 use std::thread::Threads;
 use target::Target;
 use transport::Connecting;
-use tree::{Own, Shown};
+use tree::{Context, Shown};
 use users::{Listed, list_users};
 use working::{begin_work, end_work};
 
@@ -366,12 +368,12 @@ pub(crate) fn do_work<H: Net<Stream = TcpStream>>(
         Work::Run(command) => Ok(Told::Answer(answer(rt, session, command))),
         Work::Move { path, to } => Ok(Told::Answer(renamed(rt, session, path, to))),
         Work::PutTree { path, dir } => {
-            let own = Own::of(rt, line.dir)?;
-            put_tree(rt, server, session, own, (dir, path)).map(Told::Answer)
+            let context = Context::new(rt, line.dir, server, session)?;
+            put_tree(context, dir, path).map(Told::Answer)
         }
         Work::GetTree { path, dir } => {
-            let own = Own::of(rt, line.dir)?;
-            get_tree(rt, server, session, own, (path, dir)).map(Told::Answer)
+            let context = Context::new(rt, line.dir, server, session)?;
+            get_tree(context, path, dir).map(Told::Answer)
         }
         Work::Users => list_users(rt, server, session, line.user),
     }
@@ -654,6 +656,9 @@ fn print_with_reason(
     let status = print(rt, outcome)?;
     if let Some(reason) = reason_of(line, wanted, outcome) {
         let _ = eprintln!(rt; "sundr: {reason}");
+    }
+    if let Ok(Outcome::Answer(Answer::Lost(lost), _)) = outcome {
+        tell_lost(rt, line.dir, line.user, lost);
     }
     if matches!(outcome, Ok(Outcome::Renewed(_))) {
         tell_next(rt);

@@ -1,12 +1,9 @@
 //! All that stands in a folder of this system is written below a directory.
 
-use crate::OwnSession;
 use crate::folder::{content_hindrance, read_content};
 use crate::hindrance::Hindrance;
-use crate::reaching::Server;
-use crate::tree::{
-    IN_THE_WAY, OWN_FOLDER, Own, Shown, Stopped, Tally, joined, place_word, run, show,
-};
+use crate::lost::{is_unwritten, last_operation};
+use crate::tree::{Context, IN_THE_WAY, OWN_FOLDER, Shown, Stopped, Tally, joined, place_word};
 use commands::{Answer, Command, Kind, MOST_FILES, NewFile, Refusal, Row, have_names};
 use directory::{MOST_ENTRIES, Target as Place};
 use itable::FILE_SIZE;
@@ -15,6 +12,7 @@ use std::alloc::{AllocError, Global};
 use std::fs;
 use std::io::{self, ErrorKind};
 use std::net::{Net, TcpStream};
+use update_cert::Cert;
 
 /// What is told of a name that is none here.
 const NO_NAME: &str = "a name that no entry may have";
@@ -32,22 +30,23 @@ struct Pending {
     path: String,
 }
 
-/// A file that is to be written, and its bytes.
+/// A file that is to be written, its bytes, and where the one stands that has its name.
 #[derive(Drop)]
 struct Content {
     name: String,
     bytes: Vec<u8>,
+    there: Option<Place>,
 }
 
 /// What is still to be written, and what was.
 #[derive(Drop)]
-struct Putting {
+struct Putting<'a, 's, 'c, H: Net<Stream = TcpStream>> {
+    context: Context<'a, 's, 'c, H>,
     pending: Vec<Pending>,
     /// The files that are written next, all into one directory.
     files: Vec<Content>,
     /// How many entries that directory has by then.
     entries: usize,
-    own: Own,
     tally: Tally,
 }
 
@@ -77,57 +76,17 @@ fn is_name(name: &str) -> bool {
     have_names(&[NewFile { name, content: &[] }])
 }
 
-/// Tells which files were to be written by an operation of which changes had no effect.
-fn tell_lost(rt: &HostRuntime, directory: &str, files: &[Content]) {
-    for file in files {
-        let _ = eprintln!(rt;
-            "sundr: {}/{}: perhaps not written",
-            Shown(directory),
-            Shown(&file.name)
-        );
-    }
-}
-
-/// The entries of a directory, which is made where nothing is there.
-fn rows_at<H: Net<Stream = TcpStream>>(
-    rt: &HostRuntime,
-    server: &Server<'_, H>,
-    session: &mut OwnSession<'_, H>,
-    path: &str,
-) -> Result<Vec<Row<Global>>, Stopped> {
-    match run(rt, server, session, &Command::Mkdir(path)) {
-        Answer::Done => return Ok(Vec::new(rt.alloc())),
-        Answer::Refused(Refusal::There) => {}
-        other => return Err(Stopped::Answered(other)),
-    }
-    // What is there was looked at just now.
-    match show(server, session, &Command::Details(path)) {
-        Answer::Details(rows) => Ok(rows),
-        other => Err(Stopped::Answered(other)),
-    }
+/// The place that a name stands for among these entries, if one has it.
+fn place_of(rows: &[Row<Global>], name: &str) -> Option<Place> {
+    let row = rows.iter().find(|row| row.entry().name().as_str() == name)?;
+    Some(row.entry().target())
 }
 
 /// The place of the file of a name and a size, if there is one among these entries.
 fn like(rows: &[Row<Global>], name: &str, size: usize) -> Option<Place> {
-    let row = rows.iter().find(|row| row.entry().name().as_str() == name)?;
-    match row.kind() {
-        Kind::File(bytes) if bytes as usize == size => Some(row.entry().target()),
+    match kind_of(rows, name) {
+        Some(Kind::File(bytes)) if bytes as usize == size => place_of(rows, name),
         _ => None,
-    }
-}
-
-/// Whether the file at a place has these bytes.
-fn has_content<H: Net<Stream = TcpStream>>(
-    rt: &HostRuntime,
-    server: &Server<'_, H>,
-    session: &mut OwnSession<'_, H>,
-    place: Place,
-    content: &[u8],
-) -> Result<bool, Stopped> {
-    let word = place_word(rt.alloc(), place)?;
-    match show(server, session, &Command::Cat(&word)) {
-        Answer::Bytes(bytes) => Ok(bytes.as_slice() == content),
-        other => Err(Stopped::Answered(other)),
     }
 }
 
@@ -143,41 +102,76 @@ fn new_files<'a>(alloc: Global, files: &'a [Content]) -> Result<Vec<NewFile<'a>>
     Ok(all)
 }
 
-/// Writes these files into a directory, in one operation.
-fn write_all<H: Net<Stream = TcpStream>>(
-    rt: &HostRuntime,
-    server: &Server<'_, H>,
-    session: &mut OwnSession<'_, H>,
-    directory: &str,
-    files: &[Content],
-) -> Result<(), Stopped> {
-    let files = new_files(rt.alloc(), files)?;
-    let command = Command::PutAll {
-        directory,
-        files: &files,
-    };
-    match run(rt, server, session, &command) {
-        Answer::Done => Ok(()),
-        other => Err(Stopped::Answered(other)),
+/// Whether the changes without effect of an operation, if it can be read, concern a file.
+fn is_lost(operation: &Option<Cert<Global>>, lost: &[u8], file: &Content) -> bool {
+    match operation {
+        Some(operation) => is_unwritten(operation.changes(), lost, &file.name, file.there),
+        None => true,
     }
 }
 
-impl Putting {
+impl<H: Net<Stream = TcpStream>> Putting<'_, '_, '_, H> {
+    /// The entries of a directory, which is made where nothing is there.
+    fn rows_at(&mut self, path: &str) -> Result<Vec<Row<Global>>, Stopped> {
+        match self.context.run(&Command::Mkdir(path)) {
+            Answer::Done => return Ok(Vec::new(self.context.rt.alloc())),
+            Answer::Refused(Refusal::There) => {}
+            other => return Err(Stopped::Answered(other)),
+        }
+        // What is there was looked at just now.
+        match self.context.show(&Command::Details(path)) {
+            Answer::Details(rows) => Ok(rows),
+            other => Err(Stopped::Answered(other)),
+        }
+    }
+
+    /// Whether the file at a place has these bytes.
+    fn has_content(&mut self, place: Place, content: &[u8]) -> Result<bool, Stopped> {
+        let word = place_word(self.context.rt.alloc(), place)?;
+        match self.context.show(&Command::Cat(&word)) {
+            Answer::Bytes(bytes) => Ok(bytes.as_slice() == content),
+            other => Err(Stopped::Answered(other)),
+        }
+    }
+
+    /// Writes the files that are next into a directory, in one operation.
+    fn write_all(&mut self, directory: &str) -> Result<(), Stopped> {
+        let files = new_files(self.context.rt.alloc(), &self.files)?;
+        let command = Command::PutAll {
+            directory,
+            files: &files,
+        };
+        match self.context.run(&command) {
+            Answer::Done => Ok(()),
+            other => Err(Stopped::Answered(other)),
+        }
+    }
+
+    /// Tells which of the files that were next these changes concern, which had no effect in the last operation.
+    fn tell_lost(&self, directory: &str, lost: &[u8]) {
+        let rt = self.context.rt;
+        let operation = last_operation(rt, self.context.dir);
+        for file in &self.files {
+            if is_lost(&operation, lost, file) {
+                let _ = eprintln!(rt;
+                    "sundr: {}/{}: not written",
+                    Shown(directory),
+                    Shown(&file.name)
+                );
+            }
+        }
+        let_go(operation);
+    }
+
     /// Writes the files that are next into a directory.
-    fn write<H: Net<Stream = TcpStream>>(
-        &mut self,
-        rt: &HostRuntime,
-        server: &Server<'_, H>,
-        session: &mut OwnSession<'_, H>,
-        directory: &str,
-    ) -> Result<(), Stopped> {
+    fn write(&mut self, directory: &str) -> Result<(), Stopped> {
         if self.files.is_empty() {
             return Ok(());
         }
-        let written = write_all(rt, server, session, directory, &self.files);
+        let written = self.write_all(directory);
         match &written {
-            Ok(()) => self.tally.count(rt, self.files.len()),
-            Err(Stopped::Answered(Answer::Lost(_))) => tell_lost(rt, directory, &self.files),
+            Ok(()) => self.tally.count(self.context.rt, self.files.len()),
+            Err(Stopped::Answered(Answer::Lost(lost))) => self.tell_lost(directory, lost),
             Err(_) => (),
         }
         self.files.clear();
@@ -197,14 +191,12 @@ impl Putting {
     }
 
     /// A file is written next, unless it stands there with the same bytes. As many as one operation makes are written.
-    fn add_file<H: Net<Stream = TcpStream>>(
+    fn add_file(
         &mut self,
-        rt: &HostRuntime,
-        server: &Server<'_, H>,
-        session: &mut OwnSession<'_, H>,
         rows: &[Row<Global>],
         (from, directory, name): (&str, &str, &str),
     ) -> Result<(), Stopped> {
+        let rt = self.context.rt;
         let bytes = read_content(rt, from)?;
         let kind = kind_of(rows, name);
         if let Some(why) = self.unwritten(kind, name, bytes.len()) {
@@ -212,17 +204,18 @@ impl Putting {
             return Ok(());
         }
         if let Some(place) = like(rows, name, bytes.len()) {
-            if has_content(rt, server, session, place, &bytes)? {
+            if self.has_content(place, &bytes)? {
                 return Ok(());
             }
         }
+        let there = place_of(rows, name);
         let name = String::from_str(rt.alloc(), name)?;
-        self.files.push(Content { name, bytes })?;
+        self.files.push(Content { name, bytes, there })?;
         if kind.is_none() {
             self.entries = self.entries.saturating_add(1);
         }
         if self.files.len() >= MOST_FILES {
-            self.write(rt, server, session, directory)?;
+            self.write(directory)?;
         }
         Ok(())
     }
@@ -230,10 +223,10 @@ impl Putting {
     /// A folder is written later, into the directory of its name.
     fn add_folder(
         &mut self,
-        rt: &HostRuntime,
         rows: &[Row<Global>],
         (from, directory, name): (&str, &str, &str),
     ) -> Result<(), Stopped> {
+        let rt = self.context.rt;
         let why = match kind_of(rows, name) {
             Some(Kind::File(_) | Kind::Nothing) => Some(IN_THE_WAY),
             None if !is_name(name) => Some(NO_NAME),
@@ -250,62 +243,50 @@ impl Putting {
     }
 
     /// What stands at a path of this system is written under a name: a file, or later all that stands in a folder.
-    fn add_found<H: Net<Stream = TcpStream>>(
+    fn add_found(
         &mut self,
-        rt: &HostRuntime,
-        server: &Server<'_, H>,
-        session: &mut OwnSession<'_, H>,
         rows: &[Row<Global>],
         (from, directory, name): (&str, &str, &str),
     ) -> Result<(), Stopped> {
-        let found = match fs::symlink_metadata(rt, from) {
+        let found = match fs::symlink_metadata(self.context.rt, from) {
             Ok(found) => found,
             Err(fault) => return Err(content_hindrance(&fault).into()),
         };
         if found.is_dir() {
-            return self.add_folder(rt, rows, (from, directory, name));
+            return self.add_folder(rows, (from, directory, name));
         }
         if found.is_file() {
-            return self.add_file(rt, server, session, rows, (from, directory, name));
+            return self.add_file(rows, (from, directory, name));
         }
         self.tally
-            .leave_out(rt, from, "neither a file nor a folder");
+            .leave_out(self.context.rt, from, "neither a file nor a folder");
         Ok(())
     }
 
     /// What has a name in a folder is written. What this system doesn't let be read is left out.
-    fn add<H: Net<Stream = TcpStream>>(
-        &mut self,
-        rt: &HostRuntime,
-        server: &Server<'_, H>,
-        session: &mut OwnSession<'_, H>,
-        rows: &[Row<Global>],
-        here: &Pending,
-        name: &str,
-    ) -> Result<(), Stopped> {
+    fn add(&mut self, rows: &[Row<Global>], here: &Pending, name: &str) -> Result<(), Stopped> {
+        let rt = self.context.rt;
         let from = joined(rt.alloc(), &here.folder, name)?;
-        let done = self.add_found(rt, server, session, rows, (&from, &here.path, name));
+        let done = self.add_found(rows, (&from, &here.path, name));
         self.tally.past(rt, &from, done)
     }
 
     /// Writes what stands in a folder under these names.
-    fn add_all<H: Net<Stream = TcpStream>>(
+    fn add_all(
         &mut self,
-        rt: &HostRuntime,
-        server: &Server<'_, H>,
-        session: &mut OwnSession<'_, H>,
         rows: &[Row<Global>],
         here: &Pending,
         names: &[String],
     ) -> Result<(), Stopped> {
         for name in names {
-            self.add(rt, server, session, rows, here, name)?;
+            self.add(rows, here, name)?;
         }
-        self.write(rt, server, session, &here.path)
+        self.write(&here.path)
     }
 
     /// The names of a folder. Those that aren't text are left out.
-    fn names(&mut self, rt: &HostRuntime, folder: &str) -> Result<Vec<String>, Stopped> {
+    fn names(&mut self, folder: &str) -> Result<Vec<String>, Stopped> {
+        let rt = self.context.rt;
         match names_in(rt, folder) {
             Ok((names, has_others)) => {
                 if has_others {
@@ -318,45 +299,35 @@ impl Putting {
     }
 
     /// Whether a folder is the user's own.
-    fn is_own(&self, rt: &HostRuntime, folder: &str) -> bool {
-        match fs::metadata(rt, folder) {
-            Ok(found) => self.own.is(&found),
+    fn is_own(&self, folder: &str) -> bool {
+        match fs::metadata(self.context.rt, folder) {
+            Ok(found) => self.context.is_own(&found),
             Err(_) => false,
         }
     }
 
     /// Writes what stands in a folder, unless it is the user's own.
-    fn go_on<H: Net<Stream = TcpStream>>(
-        &mut self,
-        rt: &HostRuntime,
-        server: &Server<'_, H>,
-        session: &mut OwnSession<'_, H>,
-        here: &Pending,
-    ) -> Result<(), Stopped> {
-        if self.is_own(rt, &here.folder) {
-            self.tally.leave_out(rt, &here.folder, OWN_FOLDER);
+    fn go_on(&mut self, here: &Pending) -> Result<(), Stopped> {
+        if self.is_own(&here.folder) {
+            self.tally
+                .leave_out(self.context.rt, &here.folder, OWN_FOLDER);
             return Ok(());
         }
-        let names = self.names(rt, &here.folder)?;
-        let rows = rows_at(rt, server, session, &here.path)?;
+        let names = self.names(&here.folder)?;
+        let rows = self.rows_at(&here.path)?;
         self.entries = rows.len();
-        let gone = self.add_all(rt, server, session, &rows, here, &names);
+        let gone = self.add_all(&rows, here, &names);
         let_go(rows);
         gone
     }
 
     /// Writes what stands in each folder that was put off, those last that stand deepest.
-    fn go<H: Net<Stream = TcpStream>>(
-        &mut self,
-        rt: &HostRuntime,
-        server: &Server<'_, H>,
-        session: &mut OwnSession<'_, H>,
-    ) -> Result<(), Stopped> {
+    fn go(&mut self) -> Result<(), Stopped> {
         for _ in 0..u64::MAX {
             match self.pending.pop() {
                 Some(next) => {
-                    let done = self.go_on(rt, server, session, &next);
-                    self.tally.past(rt, &next.folder, done)?;
+                    let done = self.go_on(&next);
+                    self.tally.past(self.context.rt, &next.folder, done)?;
                 }
                 None => break,
             }
@@ -365,34 +336,33 @@ impl Putting {
     }
 }
 
-/// The first folder, and no file yet.
-fn begun(alloc: Global, own: Own, folder: &str, path: &str) -> Result<Putting, Hindrance> {
+/// The first folder, of those whose files are to be written.
+fn first(alloc: Global, folder: &str, path: &str) -> Result<Vec<Pending>, Hindrance> {
     let first = Pending {
         folder: String::from_str(alloc, folder)?,
         path: String::from_str(alloc, path)?,
     };
     let mut pending = Vec::new(alloc);
     pending.push(first)?;
-    Ok(Putting {
-        pending,
-        files: Vec::new(alloc),
-        entries: 0,
-        own,
-        tally: Tally::new(),
-    })
+    Ok(pending)
 }
 
 /// Writes all that stands in a folder of this system below a directory, which is made where nothing is there. Eight files
 /// at most go into one operation; what is there already with the same bytes is left as it is.
 pub(crate) fn put_tree<H: Net<Stream = TcpStream>>(
-    rt: &HostRuntime,
-    server: &Server<'_, H>,
-    session: &mut OwnSession<'_, H>,
-    own: Own,
-    (folder, path): (&str, &str),
+    context: Context<'_, '_, '_, H>,
+    folder: &str,
+    path: &str,
 ) -> Result<Answer<Global>, Hindrance> {
-    let mut putting = begun(rt.alloc(), own, folder, path)?;
-    let gone = putting.go(rt, server, session);
+    let rt = context.rt;
+    let mut putting = Putting {
+        pending: first(rt.alloc(), folder, path)?,
+        context,
+        files: Vec::new(rt.alloc()),
+        entries: 0,
+        tally: Tally::new(),
+    };
+    let gone = putting.go();
     let tally = putting.tally;
     let_go(putting);
     tally.answer(rt, path, gone)

@@ -38,14 +38,14 @@ impl fmt::Display for Shown<'_> {
 
 /// Which folder the user's own one is: nothing below it is put, and nothing is written into it.
 #[derive(Clone, Copy)]
-pub(crate) struct Own {
+struct Own {
     device: u64,
     number: u64,
 }
 
 impl Own {
     /// The user's folder at a path.
-    pub(crate) fn of(rt: &HostRuntime, dir: &str) -> Result<Own, Hindrance> {
+    fn of(rt: &HostRuntime, dir: &str) -> Result<Own, Hindrance> {
         match fs::metadata(rt, dir) {
             Ok(found) => Ok(Own {
                 device: found.dev(),
@@ -56,7 +56,7 @@ impl Own {
     }
 
     /// Whether it is this one.
-    pub(crate) fn is(self, found: &Metadata) -> bool {
+    fn is(self, found: &Metadata) -> bool {
         found.dev() == self.device && found.ino() == self.number
     }
 }
@@ -201,12 +201,47 @@ pub(crate) fn run<H: Net<Stream = TcpStream>>(
     answer(rt, session, command)
 }
 
-/// Tells what a command shows in the view of the last look.
-pub(crate) fn show<H: Net<Stream = TcpStream>>(
-    server: &Server<'_, H>,
-    session: &mut OwnSession<'_, H>,
-    command: &Command<'_>,
-) -> Answer<Global> {
-    server.begin();
-    session.tell(command)
+/// With what a folder is put or got: a session with the server, of the user whose folder this is.
+#[derive(Drop)]
+pub(crate) struct Context<'a, 's, 'c, H: Net<Stream = TcpStream>> {
+    pub(crate) rt: &'a HostRuntime,
+    pub(crate) dir: &'a str,
+    own: Own,
+    server: &'a Server<'s, H>,
+    session: &'a mut OwnSession<'c, H>,
+}
+
+impl<'a, 's, 'c, H: Net<Stream = TcpStream>> Context<'a, 's, 'c, H> {
+    /// That of a session, of the user of a folder.
+    pub(crate) fn new(
+        rt: &'a HostRuntime,
+        dir: &'a str,
+        server: &'a Server<'s, H>,
+        session: &'a mut OwnSession<'c, H>,
+    ) -> Result<Context<'a, 's, 'c, H>, Hindrance> {
+        let own = Own::of(rt, dir)?;
+        Ok(Context {
+            rt,
+            dir,
+            own,
+            server,
+            session,
+        })
+    }
+
+    /// Whether a folder is the user's own.
+    pub(crate) fn is_own(&self, found: &Metadata) -> bool {
+        self.own.is(found)
+    }
+
+    /// Carries out a command with a look of its own.
+    pub(crate) fn run(&mut self, command: &Command<'_>) -> Answer<Global> {
+        run(self.rt, self.server, self.session, command)
+    }
+
+    /// Tells what a command shows in the view of the last look.
+    pub(crate) fn show(&mut self, command: &Command<'_>) -> Answer<Global> {
+        self.server.begin();
+        self.session.tell(command)
+    }
 }
