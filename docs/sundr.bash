@@ -1,13 +1,20 @@
 # Completion of the words of sundr and sundrd for bash: `. docs/sundr.bash`, or tools/install puts it where bash looks.
+# tools/completion makes it of what the programs' help tells.
+
+# Adds to the words that are offered: those that bash finds so for the word that stands there.
+_sundr_offer() {
+    local found
+    mapfile -t found < <(compgen "$@" -- "${COMP_WORDS[COMP_CWORD]}")
+    COMPREPLY+=("${found[@]}")
+}
 
 _sundr() {
-    local word=${COMP_WORDS[COMP_CWORD]} before=${COMP_WORDS[COMP_CWORD - 1]} command= at place=0
-    local commands="init key status users ls cat put get mkdir rm mv link adduser setkey addmember dropmember admin renew batch help"
     # The command, and how many words come between it and this one.
+    local before=${COMP_WORDS[COMP_CWORD - 1]} command= at place=0
     for ((at = 1; at < COMP_CWORD; at++)); do
         if [[ -n $command ]]; then
             ((place += 1))
-        elif [[ ${COMP_WORDS[at]} == --@(dir|server|user) ]]; then
+        elif [[ ${COMP_WORDS[at]} == @(--dir|--server|--user) ]]; then
             ((at += 1))
         elif [[ ${COMP_WORDS[at]} != -* ]]; then
             command=${COMP_WORDS[at]}
@@ -17,40 +24,33 @@ _sundr() {
     case $command.$place in
         .*)
             case $before in
-                --dir) mapfile -t COMPREPLY < <(compgen -d -- "$word") ;;
-                --server | --user) ;;
-                *)
-                    mapfile -t COMPREPLY < <(
-                        compgen -W "--dir --server --user --moved --help --version $commands" -- "$word"
-                    )
-                    ;;
+                --dir) _sundr_offer -d ;;
+                --server | --user) : ;;
+                *) _sundr_offer -W "--dir --server --user --moved --help --version init key status users ls cat put get mkdir rm mv link adduser setkey addmember dropmember admin renew batch help" ;;
             esac
             ;;
-        init.0) mapfile -t COMPREPLY < <(compgen -d -- "$word") ;;
-        put.0 | get.0)
-            mapfile -t COMPREPLY < <(compgen -W "--recursive --help" -- "$word"; compgen -f -- "$word")
-            ;;
-        ls.*) mapfile -t COMPREPLY < <(compgen -W "--long --help" -- "$word") ;;
-        init.2 | put.[12] | get.[12] | admin.0) mapfile -t COMPREPLY < <(compgen -f -- "$word") ;;
-        renew.*) mapfile -t COMPREPLY < <(compgen -W "--early --help" -- "$word") ;;
-        batch.*) mapfile -t COMPREPLY < <(compgen -W "--stop --help" -- "$word") ;;
-        help.0) mapfile -t COMPREPLY < <(compgen -W "$commands" -- "$word") ;;
-        *) mapfile -t COMPREPLY < <(compgen -W "--help" -- "$word") ;;
+        init.0) _sundr_offer -d ;;
+        init.2) _sundr_offer -f ;;
+        ls.*) _sundr_offer -W "--long --help" ;;
+        put.*) _sundr_offer -W "--recursive --help"; _sundr_offer -f ;;
+        get.*) _sundr_offer -W "--recursive --help"; _sundr_offer -f ;;
+        admin.0) _sundr_offer -f ;;
+        renew.*) _sundr_offer -W "--early --help" ;;
+        batch.*) _sundr_offer -W "--stop --help" ;;
+        help.0) _sundr_offer -W "init key status users ls cat put get mkdir rm mv link adduser setkey addmember dropmember admin renew batch help" ;;
+        *) _sundr_offer -W "--help" ;;
     esac
 }
 complete -F _sundr sundr
 
 _sundrd() {
-    local word=${COMP_WORDS[COMP_CWORD]}
-    case ${COMP_WORDS[COMP_CWORD - 1]} in
-        --keep) mapfile -t COMPREPLY < <(compgen -d -- "$word") ;;
-        --super | --log) mapfile -t COMPREPLY < <(compgen -f -- "$word") ;;
-        --listen | --connections | --at-once | --idle | --room) COMPREPLY=() ;;
-        *)
-            mapfile -t COMPREPLY < <(
-                compgen -W "--listen --super --keep --log --connections --at-once --idle --room --help --version" -- "$word"
-            )
-            ;;
+    local before=${COMP_WORDS[COMP_CWORD - 1]}
+    COMPREPLY=()
+    case $before in
+        --listen | --connections | --at-once | --idle | --room) : ;;
+        --super | --log) _sundr_offer -f ;;
+        --keep) _sundr_offer -d ;;
+        *) _sundr_offer -W "--listen --super --keep --log --connections --at-once --idle --room --help --version" ;;
     esac
 }
 complete -F _sundrd sundrd
