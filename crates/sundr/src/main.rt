@@ -45,7 +45,7 @@ use layout::{User, let_go};
 use leaf_ledger::{Device, FileDevice};
 use lms_sign::{PrivateKey, PublicKey};
 use lost::tell_lost;
-use place::{Place, check_place, tell_place};
+use place::{Place, check_again, check_place, tell_place};
 use putting::put_tree;
 use reaching::{Contact, Reach, Server, Stream};
 use reason::{Reason, reason_of_answer, reason_of_hindrance, reason_of_unmade};
@@ -213,6 +213,17 @@ fn open_client<H: Threads + Sync>(
     client_over(rt.alloc(), line.user, keys, own, journal)
 }
 
+/// Tells a folder its place, if its ledgers are those that were checked.
+fn check_and_tell(
+    rt: &HostRuntime,
+    folder: &str,
+    keys: &Keys,
+    place: &Place,
+) -> Result<(), Hindrance> {
+    check_again(rt, folder, keys, place)?;
+    tell_place(rt, folder, place)
+}
+
 /// The user's client, over a folder that tells its place from then on.
 fn open_and_tell<H: Threads + Sync>(
     rt: &HostRuntime,
@@ -222,7 +233,7 @@ fn open_and_tell<H: Threads + Sync>(
     place: &Place,
 ) -> Result<OwnClient, Hindrance> {
     let client = open_client(rt, host, line, keys)?;
-    match tell_place(rt, line.dir, place) {
+    match check_and_tell(rt, line.dir, keys, place) {
         Ok(()) => Ok(client),
         Err(hindrance) => {
             let_go(client);

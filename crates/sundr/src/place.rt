@@ -297,6 +297,22 @@ pub(crate) fn check_place(
     Ok(Place { text, telling })
 }
 
+/// Refuses a folder whose ledgers aren't at the place any more that was checked: they were opened by their names since,
+/// and those that are locked have to be those that are used.
+pub(crate) fn check_again(
+    rt: &HostRuntime,
+    folder: &str,
+    keys: &Keys,
+    place: &Place,
+) -> Result<(), Hindrance> {
+    let ledgers = open_ledgers(rt, folder, count_of(keys))?;
+    let text = own_place(rt, folder, &ledgers)?;
+    if text != place.text {
+        return Err(foreign(FileFault::Elsewhere));
+    }
+    Ok(())
+}
+
 /// Puts the file of a folder's place there, which is there whole or as it was, and syncs the folder.
 fn put_place(rt: &HostRuntime, folder: &str, text: &str) -> io::Result<()> {
     let path = path_of(rt.alloc(), folder, FolderFile::Place)?;
