@@ -147,12 +147,14 @@ impl<H: Net<Stream = TcpStream>> Putting<'_, '_, '_, H> {
         }
     }
 
-    /// Tells which of the files that were next these changes concern, which had no effect in the last operation.
-    fn tell_lost(&self, directory: &str, lost: &[u8]) {
+    /// Tells which of the files that were next these changes concern, which had no effect in the last operation: how many.
+    fn tell_lost(&self, directory: &str, lost: &[u8]) -> usize {
         let rt = self.context.rt;
         let operation = last_operation(rt, self.context.dir);
+        let mut count = 0usize;
         for file in &self.files {
             if is_lost(&operation, lost, file) {
+                count = count.saturating_add(1);
                 let _ = eprintln!(rt;
                     "sundr: {}/{}: not written",
                     Shown(directory),
@@ -161,6 +163,7 @@ impl<H: Net<Stream = TcpStream>> Putting<'_, '_, '_, H> {
             }
         }
         let_go(operation);
+        count
     }
 
     /// Writes the files that are next into a directory.
@@ -171,7 +174,11 @@ impl<H: Net<Stream = TcpStream>> Putting<'_, '_, '_, H> {
         let written = self.write_all(directory);
         match &written {
             Ok(()) => self.tally.count(self.context.rt, self.files.len()),
-            Err(Stopped::Answered(Answer::Lost(lost))) => self.tell_lost(directory, lost),
+            Err(Stopped::Answered(Answer::Lost(lost))) => {
+                let left = self.tell_lost(directory, lost);
+                self.tally
+                    .count(self.context.rt, self.files.len().saturating_sub(left));
+            }
             Err(_) => (),
         }
         self.files.clear();
@@ -355,9 +362,10 @@ pub(crate) fn put_tree<H: Net<Stream = TcpStream>>(
     path: &str,
 ) -> Result<Answer<Global>, Hindrance> {
     let rt = context.rt;
+    let pending = first(rt.alloc(), folder, path)?;
     let mut putting = Putting {
-        pending: first(rt.alloc(), folder, path)?,
         context,
+        pending,
         files: Vec::new(rt.alloc()),
         entries: 0,
         tally: Tally::new(),
