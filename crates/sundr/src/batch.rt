@@ -2,6 +2,7 @@
 
 use crate::admin::{NoChanges, read_changes};
 use crate::folder::{read_blocks, read_content, read_keys};
+use crate::found::{Found, found_beside};
 use crate::hindrance::Hindrance;
 use crate::reaching::{Contact, Server};
 use crate::standing::read_standing;
@@ -40,6 +41,7 @@ fn beside<H: Net<Stream = TcpStream>>(server: &Server<'_, H>) -> Beside {
     Beside {
         reach: server.reach(),
         leaves: None,
+        found: Found::Unasked,
     }
 }
 
@@ -141,6 +143,30 @@ fn obey<H: Net<Stream = TcpStream> + Threads + Sync>(
     }
 }
 
+/// The same outcome, beside which it is told what stands at a path that leads to nothing of the kind that is wanted.
+fn with_found<H: Net<Stream = TcpStream>>(
+    server: &Server<'_, H>,
+    session: &mut OwnSession<'_, H>,
+    wanted: &Wanted<'_>,
+    outcome: Result<Outcome, Hindrance>,
+) -> Result<Outcome, Hindrance> {
+    match outcome {
+        Ok(Outcome::Answer(answer, beside)) => {
+            let found = found_beside(server, session, wanted, &answer);
+            let Beside { reach, leaves, .. } = beside;
+            Ok(Outcome::Answer(
+                answer,
+                Beside {
+                    reach,
+                    leaves,
+                    found,
+                },
+            ))
+        }
+        other => other,
+    }
+}
+
 /// Whether what came of a line tells that nothing can be sent any more over the connection that it went over.
 fn is_cut(outcome: &Outcome) -> bool {
     match outcome {
@@ -208,6 +234,7 @@ fn carry_out<H: Net<Stream = TcpStream> + Threads + Sync>(
     };
     server.begin();
     let outcome = obey(rt, server, line, session, &wanted);
+    let outcome = with_found(server, session, &wanted, outcome);
     let is_cut = match &outcome {
         Ok(outcome) => is_cut(outcome),
         Err(_) => false,

@@ -1,11 +1,12 @@
 //! All that stands below a directory is written into a folder of this system.
 
 use crate::folder::content_hindrance;
+use crate::found::{split_last, start_alone};
 use crate::hindrance::Hindrance;
 use crate::into_target;
 use crate::target::Target;
 use crate::tree::{Context, IN_THE_WAY, OWN_FOLDER, Stopped, Tally, joined, place_word};
-use commands::{Answer, Command, Kind, Row, path_of};
+use commands::{Answer, Command, Kind, Row};
 use directory::Target as Place;
 use layout::let_go;
 use std::alloc::Global;
@@ -28,23 +29,6 @@ struct Getting<'a, 's, 'c, H: Net<Stream = TcpStream>> {
     /// The directories that were met: each is written once, under the name that was met first.
     met: Vec<Place>,
     tally: Tally,
-}
-
-/// What stands before the last name of a path, as a path, and that name.
-fn split_last(path: &str) -> Option<(&str, &str)> {
-    let (above, name) = path.rsplit_once('/')?;
-    Some((if above.is_empty() { "/" } else { above }, name))
-}
-
-/// The place at which a path begins, where it leads through no name.
-fn start_alone(path: &str) -> Option<Place> {
-    let path = path_of(path)?;
-    let start = path.start();
-    if path.names().is_empty() {
-        Some(start)
-    } else {
-        None
-    }
 }
 
 /// The place to which a path leads, in the view of the last look; none where that isn't told.

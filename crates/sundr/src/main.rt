@@ -7,6 +7,7 @@ mod batch;
 mod config;
 mod defaults;
 mod folder;
+mod found;
 mod getting;
 mod hindrance;
 mod init;
@@ -37,6 +38,7 @@ use folder::{
     Keys, Seed, check_folder, check_ledger, check_user, keep_blocks, keep_leaves, last_signed,
     lock_ledgers, open_device, read_blocks, read_content, read_kept, read_keys, read_seeds,
 };
+use found::{Found, found_beside};
 use getting::get_tree;
 use hindrance::{FileFault, FolderFile, Hindrance};
 use init::{init, print_made};
@@ -104,6 +106,8 @@ struct Beside {
     reach: Reach,
     /// How many leaves the newest key has left, if that is told.
     leaves: Option<usize>,
+    /// What stands at the path that leads to nothing of the kind that is wanted.
+    found: Found,
 }
 
 /// What is printed of a line.
@@ -407,6 +411,19 @@ fn outcome_of(told: Told, beside: Beside) -> Outcome {
     }
 }
 
+/// What stands at the path of what is wanted, where that leads to nothing of its kind.
+fn found_of<H: Net<Stream = TcpStream>>(
+    server: &Server<'_, H>,
+    session: &mut OwnSession<'_, H>,
+    wanted: &Wanted<'_>,
+    told: &Result<Told, Hindrance>,
+) -> Found {
+    match told {
+        Ok(Told::Answer(answer)) => found_beside(server, session, wanted, answer),
+        _ => Found::Unasked,
+    }
+}
+
 /// Does in a session of its own what is to be done.
 fn carry_out<H: Net<Stream = TcpStream> + Threads + Sync>(
     rt: &HostRuntime,
@@ -420,10 +437,18 @@ fn carry_out<H: Net<Stream = TcpStream> + Threads + Sync>(
     let server = Server::new(host, line.server, &contact);
     let mut session = session_of(rt, server.again(), client, read_blocks(rt, line.dir));
     let told = do_work(rt, &server, &mut session, line, work);
-    let leaves = end(rt, line.dir, session);
     let reach = contact.reach();
+    let found = found_of(&server, &mut session, &line.wanted, &told);
+    let leaves = end(rt, line.dir, session);
     let_go(locks);
-    told.map(|told| outcome_of(told, Beside { reach, leaves }))
+    told.map(|told| outcome_of(
+        told,
+        Beside {
+            reach,
+            leaves,
+            found,
+        },
+    ))
 }
 
 /// The digits of a public key, on a line behind others.
@@ -635,7 +660,7 @@ fn reason_of<'a>(
 ) -> Option<Reason<'a>> {
     match outcome {
         Ok(Outcome::Answer(answer, beside)) => {
-            reason_of_answer(line, wanted, beside.reach, answer)
+            reason_of_answer(line, wanted, beside.reach, beside.found, answer)
         }
         Ok(_) => None,
         Err(hindrance) => Some(reason_of_hindrance(line, wanted, *hindrance)),

@@ -1,5 +1,6 @@
 //! What is told beside an answer on standard error: what it means, and what can be done.
 
+use crate::found::Found;
 use crate::hindrance::{FileFault, FolderFile, Hindrance};
 use crate::reaching::Reach;
 use commands::{Answer, Command, Refusal, path_of, place_of};
@@ -13,12 +14,6 @@ use wire::Status;
 /// Why a change of what stands at a path had no effect.
 const LOST: &str =
     "without effect: you may not change what it names, or another user came first: look, and try again";
-
-/// Why a directory's entries can't be shown.
-const NO_DIRECTORY_THERE: &str = "no such directory: nothing is there, or a file";
-
-/// Why a file's content can't be shown.
-const NO_FILE_THERE: &str = "no such file: nothing is there, or a directory";
 
 /// What an answer means: a line of two parts.
 #[derive(Clone, Copy)]
@@ -212,10 +207,10 @@ fn words_of_lost_in(wanted: &Wanted<'_>) -> &'static str {
 }
 
 /// Why a command finds no path where its path is one.
-fn words_of_path(command: &Command<'_>) -> &'static str {
+fn words_of_path(command: &Command<'_>, found: Found) -> &'static str {
     match command {
-        Command::Ls(_) | Command::Details(_) => NO_DIRECTORY_THERE,
-        Command::Cat(_) => NO_FILE_THERE,
+        Command::Ls(_) | Command::Details(_) => found.no_directory(),
+        Command::Cat(_) => found.no_file(),
         Command::Link { target, .. } if place_of(target).is_none() => {
             "can't lead to that: what it is to lead to is told as @p:i"
         }
@@ -225,17 +220,17 @@ fn words_of_path(command: &Command<'_>) -> &'static str {
 }
 
 /// Why what is wanted finds no path.
-fn words_of_path_in(wanted: &Wanted<'_>) -> &'static str {
+fn words_of_path_in(wanted: &Wanted<'_>, found: Found) -> &'static str {
     if path_of(name_in(wanted)).is_none() {
         return "not a path: paths are /, /a/b, @p:i and @p:i/a/b";
     }
     match wanted {
-        Wanted::Run(command) => words_of_path(command),
+        Wanted::Run(command) => words_of_path(command, found),
         Wanted::Move { .. } => {
             "can't be moved: it has no name there, or no directory is there for the new one, or it is a directory and would leave its own"
         }
-        Wanted::Get { .. } => NO_FILE_THERE,
-        Wanted::GetTree { .. } => NO_DIRECTORY_THERE,
+        Wanted::Get { .. } => found.no_file(),
+        Wanted::GetTree { .. } => found.no_directory(),
         Wanted::PutTree { .. } => {
             "no directory can be there: it is a file, or no such directory above it, or it has a name that none may have"
         }
@@ -303,10 +298,11 @@ fn reason_of_refusal<'a>(
     line: &Line<'a>,
     wanted: &Wanted<'a>,
     reach: Reach,
+    found: Found,
     refusal: Refusal,
 ) -> Reason<'a> {
     let (name, words) = match refusal {
-        Refusal::NoPath => (name_in(wanted), words_of_path_in(wanted)),
+        Refusal::NoPath => (name_in(wanted), words_of_path_in(wanted, found)),
         Refusal::There => (new_name_in(wanted), "already there"),
         Refusal::NotEmpty => (name_in(wanted), "directory not empty"),
         Refusal::NoNumber => (
@@ -329,6 +325,7 @@ pub(crate) fn reason_of_answer<'a>(
     line: &Line<'a>,
     wanted: &Wanted<'a>,
     reach: Reach,
+    found: Found,
     answer: &Answer<Global>,
 ) -> Option<Reason<'a>> {
     match answer {
@@ -342,7 +339,7 @@ pub(crate) fn reason_of_answer<'a>(
             words: words_of_rule(*rule),
         }),
         Answer::Declined(status) => Some(reason_of_status(*status)),
-        Answer::Refused(refusal) => Some(reason_of_refusal(line, wanted, reach, *refusal)),
+        Answer::Refused(refusal) => Some(reason_of_refusal(line, wanted, reach, found, *refusal)),
     }
 }
 
@@ -385,7 +382,9 @@ pub(crate) fn reason_of_hindrance<'a>(
         Hindrance::NoFile(fault) => reason_of_fault(file_in(wanted), fault),
         Hindrance::NoFolder(fault) => reason_of_fault(line.dir, fault),
         Hindrance::OfUser(own) => reason_of_user(line.dir, own, line.user),
-        Hindrance::Refused(refusal) => reason_of_refusal(line, wanted, Reach::Untried, refusal),
+        Hindrance::Refused(refusal) => {
+            reason_of_refusal(line, wanted, Reach::Untried, Found::Unasked, refusal)
+        }
         Hindrance::NotRenewed(fault) => Reason::Of {
             name: line.dir,
             words: fault.words(),
