@@ -1,7 +1,7 @@
 //! Crashes of files of blocks: what was synced is found, after each failed call, whatever is left of what wasn't.
 
-use crate::blocks::{ABC, NOTHING, ROOM, is_found, opened, put};
-use crate::storages::{Host, WAYS, crashed, device_of};
+use crate::blocks::{ABC, ABD, NOTHING, ROOM, is_found, opened, put};
+use crate::storages::{Host, WAYS, crashed, device_of, ways_of};
 use block_file::{BlockError, BlockFile};
 use leaf_ledger::{Device, MemoryDevice};
 use std::alloc::Global;
@@ -103,4 +103,52 @@ fn each_call_of_a_later_open_fails(rt: HostRuntime) {
         }
     }
     assert_eq!(rt; cases, 630);
+}
+
+/// Puts three texts, of which the first is synced, until this call of the device fails.
+fn put_three(rt: &impl Host, failing: u64) -> MemoryDevice<Global> {
+    let mut blocks = opened(rt, DeviceStorage::new(device_of(rt, b"")), ROOM);
+    put(rt, &mut blocks, b"abc", &ABC);
+    assert!(rt; blocks.usable() && blocks.sync().is_ok());
+    let mut device = blocks.close().close();
+    device.fail_after(failing);
+    let mut blocks = opened(rt, DeviceStorage::new(device), ROOM);
+    for text in [b"".as_slice(), b"abd"] {
+        let _ = blocks.usable() && blocks.put(text).is_ok();
+    }
+    let _ = blocks.usable() && blocks.sync().is_ok();
+    blocks.close().close()
+}
+
+/// How many calls an open makes of a file with one block: a sync, the size, and the head.
+const FIRST_CALLS: u64 = 3;
+
+/// How many calls two puts and a sync make.
+const BATCH_CALLS: u64 = 2 + 1;
+
+/// In how many ways a crash leaves what waits once this call failed: the block before is found, and the file goes on.
+fn left_after(rt: &impl Host, failing: u64) -> usize {
+    let ways = ways_of(&put_three(rt, failing));
+    for way in 0..ways {
+        let device = crashed(rt, put_three(rt, failing), way);
+        let mut blocks = opened(rt, DeviceStorage::new(device), ROOM);
+        is_found(rt, &mut blocks, &ABC, Some(b"abc"));
+        put(rt, &mut blocks, b"", &NOTHING);
+        put(rt, &mut blocks, b"abd", &ABD);
+        is_found(rt, &mut blocks, &NOTHING, Some(b""));
+        is_found(rt, &mut blocks, &ABD, Some(b"abd"));
+        is_found(rt, &mut blocks, &ABC, Some(b"abc"));
+    }
+    ways
+}
+
+/// Two blocks wait for one sync, each of which a crash leaves apart from the other.
+#[test]
+fn blocks_that_wait_together(rt: HostRuntime) {
+    let mut cases: usize = 0;
+    for failing in FIRST_CALLS..=FIRST_CALLS + BATCH_CALLS {
+        cases = cases.saturating_add(left_after(&rt, failing));
+    }
+    // One block waits, then two, and after a sync that fails two; then none.
+    assert_eq!(rt; cases, 18 + 108 + 108 + 1);
 }

@@ -5,7 +5,7 @@ use std::alloc::Global;
 use std::fmt::Display;
 use std::process::Abort;
 use storage::DeviceStorage;
-use tests_aids::crashes::left_by_crash;
+use tests_aids::crashes::{left_by_crash, outcomes};
 
 /// What a test runs in.
 pub(crate) trait Host: Alloc<A = Global> + Abort {}
@@ -25,9 +25,19 @@ pub(crate) fn device_of(rt: &impl Host, text: &[u8]) -> MemoryDevice<Global> {
     MemoryDevice::new(rt.alloc(), copy(rt, text)).expect(rt, "memory")
 }
 
-/// In how many ways a crash leaves an extent: old, new, or filled with one of four bytes; and what lies past the old
-/// end whole, or cut short by a byte or by half.
-pub(crate) const WAYS: usize = 6 * 3;
+/// How what lies past the old end is left: whole, or cut short by a byte or by half.
+const CUTS: usize = 3;
+
+/// In how many ways a crash leaves an extent: old, new, or filled with one of four bytes, and each cut short.
+pub(crate) const WAYS: usize = 6 * CUTS;
+
+/// In how many ways a crash now leaves a device: each extent apart from the others, and then cut short.
+pub(crate) fn ways_of(device: &MemoryDevice<Global>) -> usize {
+    if device.unsynced().is_empty() {
+        return 1;
+    }
+    outcomes(device).saturating_mul(CUTS)
+}
 
 /// The device after a crash that leaves what wasn't synced in this way.
 pub(crate) fn crashed(
@@ -35,10 +45,11 @@ pub(crate) fn crashed(
     device: MemoryDevice<Global>,
     way: usize,
 ) -> MemoryDevice<Global> {
-    let mut left = left_by_crash(rt.alloc(), &device, way % 6).expect(rt, "memory");
+    let each = outcomes(&device).max(1);
+    let mut left = left_by_crash(rt.alloc(), &device, way % each).expect(rt, "memory");
     let least = device.synced_text().len();
     let more = left.len().saturating_sub(least);
-    let cut = match way / 6 {
+    let cut = match way / each {
         0 => 0,
         1 => 1,
         _ => more / 2,
