@@ -63,7 +63,7 @@ pub(crate) fn is_found(
 }
 
 /// Adds the bytes of a block: the length, the digest and the text.
-fn add_block(rt: &impl Host, file: &mut Vec<u8>, digest: &[u8; 32], text: &[u8]) {
+pub(crate) fn add_block(rt: &impl Host, file: &mut Vec<u8>, digest: &[u8; 32], text: &[u8]) {
     let size = [0, 0, 0, u8::try_from(text.len()).expect(rt, "a short text")];
     for part in [size.as_slice(), digest.as_slice(), text] {
         file.extend_from_slice(part).expect(rt, "memory");

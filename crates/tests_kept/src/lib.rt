@@ -1,4 +1,4 @@
-//! Tests of what a server keeps in files, in no program yet: blocks, and logs that are read back.
+//! Tests of what a server keeps in files: blocks, logs that are read back, and a server over both.
 #![tactic(auto)]
 
 #[cfg(test)]
@@ -17,6 +17,12 @@ mod log_crashes;
 mod logs;
 #[cfg(test)]
 mod refused_logs;
+#[cfg(test)]
+mod said;
+#[cfg(test)]
+mod served;
+#[cfg(test)]
+mod served_crashes;
 #[cfg(test)]
 mod signer;
 #[cfg(test)]
