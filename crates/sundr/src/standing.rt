@@ -10,6 +10,7 @@ use crate::hindrance::{FolderFile, Hindrance};
 use crate::place::look_at_place;
 use crate::{OwnKeys, client_over};
 use client_verify::{Client, Phase};
+use commands::Refusal;
 use drawn_key::drawn_key;
 use file_commands::Line;
 use layout::{User, let_go};
@@ -138,6 +139,14 @@ fn read_own<H: Threads + Sync>(
     Ok(own)
 }
 
+/// What hinders a client over devices in memory, which hold what was read: they fail only where memory runs out.
+fn of_memory(hindrance: Hindrance) -> Hindrance {
+    match hindrance {
+        Hindrance::Refused(Refusal::Device) => Hindrance::Refused(Refusal::Memory),
+        other => other,
+    }
+}
+
 /// The user's client over what the files of the folder hold.
 fn read_client<H: Threads + Sync>(
     rt: &HostRuntime,
@@ -147,7 +156,10 @@ fn read_client<H: Threads + Sync>(
 ) -> Result<ReadClient, Hindrance> {
     let journal = read_device(rt, line.dir, FolderFile::Journal)?;
     let own = read_own(rt, host, line.dir, keys, last_signed(journal.text()))?;
-    client_over(rt.alloc(), line.user, keys, own, journal)
+    match client_over(rt.alloc(), line.user, keys, own, journal) {
+        Ok(client) => Ok(client),
+        Err(hindrance) => Err(of_memory(hindrance)),
+    }
 }
 
 /// How far the user of a folder is. A folder that a command would refuse is refused, but for one that is in use. Nothing
