@@ -1,3 +1,10 @@
+mod Adding
+mod Answered
+mod Appends
+mod Beginnings
+mod Carrying
+mod Ends
+mod Handed
 mod Pushes
 mod Sent
 mod Syncs

@@ -13,10 +13,6 @@ AreOfLast calls records = (taken left : List Call) × (calls ≡ taken ++ left) 
 pub all_taken : (calls : List Call) (records : List Record) → records ≡ [] → AreOfLast calls records
 all_taken calls records none = (calls, [], sym (append-nil calls), none)
 
--- one call more is told
-pub told_more : {S : Type 0} (value : S → Call) (old between new : List S) (s : S) (x : Call) → between ≡ old → new ≡ between ++ s ∷ [] → value s ≡ x → map value new ≡ map value old ++ x ∷ []
-told_more value old between new s x same pushed is = ap (map value) pushed ∙ map-append value between (s ∷ []) ∙ ap (λ l. map value l ++ value s ∷ []) same ∙ ap (λ y. map value old ++ y ∷ []) is
-
 pub one_more : (calls calls' : List Call) (records records' : List Record) (x : Call) → AreOfLast calls records → calls' ≡ calls ++ x ∷ [] → records' ≡ records ++ record_of x ∷ []
     → AreOfLast calls' records'
 one_more calls calls' records records' x (taken, left, split, are) grown added = (

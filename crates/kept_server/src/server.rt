@@ -1,22 +1,30 @@
 //! The server, and what it answers to a request.
 
-ghost use Rattle.std.specs.Prelude.{◌≡◌, ◌+◌, ◌<◌, [], true, false, IfSome, IfNone};
+ghost use Rattle.std.specs.Prelude.{◌≡◌, ◌+◌, ◌<◌, List, [], true, false, IfSome, IfNone, IsSomeAnd};
+ghost use mathlib.Core.List.{IsPrefix};
 ghost use Rattle.wire.specs.Frame.{request_of};
-ghost use Rattle.consistency_server.specs.History.{call_of, is_carried_out};
+ghost use Rattle.consistency_server.specs.Answers.{Call as PureCall};
+ghost use Rattle.consistency_server.specs.History.{call_of, is_carried_out, log_of};
 ghost use Rattle.wire.specs.declared.kinds.Status.TheVariants as status;
 ghost use Rattle.server_workers.specs.Counting.{count_of};
 ghost use Rattle.server_workers.specs.Conversation.{RepliesToCall, RepliesToPut, RepliesToGet, RepliesToSync};
 ghost use Rattle.server_workers.specs.Conversation.{RepliesToBody, count_in, on_storage};
+ghost use Rattle.kept_server.specs.Kept.{KeepsOrder, ToldBody, ToldCall};
+ghost use Rattle.kept_server.specs.declared.state.Next.TheVariants as next;
 
 use crate::blocks::Blocks;
+use crate::events::{Beginning, Opened};
+use crate::keeper::Keeper;
 use crate::key::ServerKey;
 use crate::order::Order;
+use crate::receipt::Receipt;
 use crate::state::{Next, State};
+use crate::waiting::Taken;
 use block_file::{BlockError, BlockFile};
 use consistency_server::{Answer, Call, CallKind, Ordered, Signer, Verification, signer_of};
 use layout::{Digest, let_go};
 use lms_sign::PublicKey;
-use record_log::{Record, RecordLog};
+use record_log::RecordLog;
 use server_workers::{Counter, Gate, ReplyBody, SeenKey, Serves, Tally, certifier, see, seen_for};
 use std::alloc::Allocator;
 use std::sync::atomic::{AtomicU64, Ordering};
@@ -31,7 +39,7 @@ use wire::{RequestKind, Status, request_of};
 pub(crate) struct KeptServer<S: Storage, T: Storage, A: Allocator, B: ServerKey, L: Ledger> {
     alloc: A,
     order: Mutex<Order<A, B>>,
-    state: Mutex<State<S, L>>,
+    state: Mutex<State<S, B, L>>,
     changed: Condvar,
     blocks: Mutex<Blocks<T, A>>,
     last_call: AtomicU64,
@@ -53,13 +61,34 @@ fn is_carried_out(status: Status) -> bool
     !matches!(status, Status::Busy | Status::Memory)
 }
 
-/// Appends records to a log that can be written.
-fn append<S: Storage, A: Allocator>(
-    alloc: A,
-    log: &mut RecordLog<S>,
-    records: &[Record<A>],
-) -> bool {
-    log.usable() && log.append_all(alloc, records).is_ok()
+/// The log, where nobody lost it: it has a beginning of what the order leaves in it.
+fn handed_back<S: Storage + Drop, A: Allocator + Copy, B: ServerKey>(
+    keeper: Option<Keeper<S, B>>,
+    order: &Order<A, B>,
+) -> Option<RecordLog<S>>
+    ensures { IfSome result (λ log. S.tells ≡ true → KeepsOrder B.start B.told log order.now) }
+{
+    let keeper = keeper?;
+    keeper.into_log(order.events())
+}
+
+/// A reply; and where it is the answer to a call that was carried out, what shows that all it tells of is synced.
+#[derive(Drop)]
+struct Told<'r, S: Storage, A: Allocator, B: ServerKey> {
+    reply: ReplyBody<'r, A>,
+    receipt: Option<Receipt<S, B>>,
+}
+
+impl<'r, S: Storage, A: Allocator, B: ServerKey> Told<'r, S, A, B> {
+    /// A reply that tells of no call.
+    fn of_none(reply: ReplyBody<'r, A>) -> Told<'r, S, A, B>
+        ensures { result.reply ≡ reply.entry }
+    {
+        Told {
+            reply,
+            receipt: None,
+        }
+    }
 }
 
 impl<S: Storage + Drop, T: Storage + Drop, A: Allocator + Copy, B: ServerKey, L: Ledger> KeptServer<
@@ -76,22 +105,29 @@ impl<S: Storage + Drop, T: Storage + Drop, A: Allocator + Copy, B: ServerKey, L:
         log: RecordLog<S>,
         blocks: BlockFile<T, A>,
         counter: Counter<L>,
+        opened: Opened,
     ) -> KeptServer<S, T, A, B, L>
-        requires { ordered.pinned ≡ B.pinned }
+        requires pinned { ordered.pinned ≡ B.pinned }
+        requires told { log_of B.pinned ordered.history ≡ B.told }
+        requires start { log.file ≡ B.start }
+        requires book { opened.seen.book ≡ B.book }
     {
+        let events = opened.named::<B>();
+        let keeper = Keeper::new(log, events.so_far().again());
         KeptServer {
             alloc,
-            order: Mutex::new(Order::new(alloc, ordered)),
-            state: Mutex::new(State::new(log, counter)),
+            order: Mutex::new(Order::new(alloc, ordered, events)),
+            state: Mutex::new(State::new(keeper, counter)),
             changed: Condvar::new(),
             blocks: Mutex::new(Blocks::new(blocks)),
             last_call: AtomicU64::new(0),
         }
     }
 
-    /// When all workers have ended.
+    /// When all workers have ended. The log has a beginning of what the order leaves in it.
     pub(crate) fn close(self) -> Closed<S, T, A>
-        ensures { result.ordered.pinned ≡ B.pinned }
+        ensures pinned { result.ordered.pinned ≡ B.pinned }
+        ensures log { IfSome result.log (λ log. S.tells ≡ true → KeepsOrder B.start B.told log result.ordered) }
     {
         let KeptServer {
             alloc: _,
@@ -101,12 +137,13 @@ impl<S: Storage + Drop, T: Storage + Drop, A: Allocator + Copy, B: ServerKey, L:
             blocks,
             last_call: _,
         } = self;
-        let ordered = order.into_inner().into_ordered();
+        let order = order.into_inner();
         let state = state.into_inner();
         let stopped = state.has_stopped();
+        let log = handed_back(state.into_keeper(), &order);
         Closed {
-            ordered,
-            log: state.into_log(),
+            ordered: order.into_ordered(),
+            log,
             blocks: blocks.into_inner().into_file(),
             stopped,
         }
@@ -120,23 +157,25 @@ impl<S: Storage + Drop, T: Storage + Drop, A: Allocator + Copy, B: ServerKey, L:
         tally: &mut Tally<L>,
         seen: &mut Option<SeenKey>,
         body: &[u8],
-    ) -> Option<ReplyBody<'_, A>>
+    ) -> Option<Told<'_, S, A, B>>
         requires { 0 < tally.old.share.parts }
-        ensures replies { IfSome result (λ reply. RepliesToBody (on_storage B.pinned) (request_of body.now) reply) }
-        ensures counted { IfSome result (λ reply.
-            tally.new.answered ≡ tally.old.answered + count_in (request_of body.now) reply.status) }
+        ensures replies { IfSome result (λ t. RepliesToBody (on_storage B.pinned) (request_of body.now) t.reply) }
+        // It tells of synced calls alone.
+        ensures told { IfSome result (λ t. ToldBody B.pinned B.told (request_of body.now) t.reply t.receipt) }
+        ensures counted { IfSome result (λ t.
+            tally.new.answered ≡ tally.old.answered + count_in (request_of body.now) t.reply.status) }
         ensures stopped { IfNone result (tally.new.answered ≡ tally.old.answered) }
         ensures parts { tally.new.share.parts ≡ tally.old.share.parts }
     {
         let Some((kind, payload)) = request_of(body) else {
-            return Some(ReplyBody::bare(self.alloc, Status::Form));
+            return Some(Told::of_none(ReplyBody::bare(self.alloc, Status::Form)));
         };
         match kind {
             RequestKind::Update => self.call(rt, gate, tally, seen, CallKind::Update, payload),
             RequestKind::Commit => self.call(rt, gate, tally, seen, CallKind::Commit, payload),
-            RequestKind::Put => self.put(rt, gate, payload),
-            RequestKind::Get => self.get(rt, gate, payload),
-            RequestKind::Sync => self.sync(rt, gate, payload),
+            RequestKind::Put => Some(Told::of_none(self.put(rt, gate, payload)?)),
+            RequestKind::Get => Some(Told::of_none(self.get(rt, gate, payload)?)),
+            RequestKind::Sync => Some(Told::of_none(self.sync(rt, gate, payload)?)),
         }
     }
 
@@ -150,10 +189,11 @@ impl<S: Storage + Drop, T: Storage + Drop, A: Allocator + Copy, B: ServerKey, L:
         seen: &mut Option<SeenKey>,
         kind: CallKind,
         text: &[u8],
-    ) -> Option<ReplyBody<'_, A>>
+    ) -> Option<Told<'_, S, A, B>>
         requires { 0 < tally.old.share.parts }
-        ensures replies { IfSome result (λ reply. RepliesToCall B.pinned (call_of kind text.now) reply) }
-        ensures counted { IfSome result (λ reply. tally.new.answered ≡ tally.old.answered + count_of reply.status) }
+        ensures replies { IfSome result (λ t. RepliesToCall B.pinned (call_of kind text.now) t.reply) }
+        ensures told { IfSome result (λ t. ToldCall B.pinned B.told (call_of kind text.now) t.reply t.receipt) }
+        ensures counted { IfSome result (λ t. tally.new.answered ≡ tally.old.answered + count_of t.reply.status) }
         ensures stopped { IfNone result (tally.new.answered ≡ tally.old.answered) }
         ensures parts { tally.new.share.parts ≡ tally.old.share.parts }
     {
@@ -163,23 +203,23 @@ impl<S: Storage + Drop, T: Storage + Drop, A: Allocator + Copy, B: ServerKey, L:
                 .wrapping_add(1),
         );
         let Ok(signer) = signer_of(self.alloc, kind, text) else {
-            return Some(ReplyBody::bare(self.alloc, Status::Memory));
+            return Some(Told::of_none(ReplyBody::bare(self.alloc, Status::Memory)));
         };
         // A copy is handed down, since the user is asked for afterwards.
         let copy = signer;
         let verified = self.verification(rt, *seen, copy, text);
         let Ok(owned) = Vec::from_slice(self.alloc, text) else {
-            return Some(ReplyBody::bare(self.alloc, Status::Memory));
+            return Some(Told::of_none(ReplyBody::bare(self.alloc, Status::Memory)));
         };
         let call = Call::new(kind, owned);
         let user = certifier(signer);
         let known = verified.as_ref();
-        let (answer, later, count) = self.order.lock(rt).call(call, known, user);
+        let (answer, later, events) = self.order.lock(rt).call(call, known, user);
         see(seen, later);
-        self.send(rt, gate, tally, answer, count)
+        self.send(rt, gate, tally, answer, &events)
     }
 
-    /// The answer to a call, once so many calls are in the log, synced. One that wasn't carried out, for want of
+    /// The answer to a call, once these events are in the log, synced. One that wasn't carried out, for want of
     /// memory, waits for nothing.
     fn send<G: Gate, R: Wait>(
         &self,
@@ -187,61 +227,83 @@ impl<S: Storage + Drop, T: Storage + Drop, A: Allocator + Copy, B: ServerKey, L:
         gate: &G,
         tally: &mut Tally<L>,
         answer: Answer<A>,
-        count: usize,
-    ) -> Option<ReplyBody<'_, A>>
+        events: &Beginning<B>,
+    ) -> Option<Told<'_, S, A, B>>
         requires { 0 < tally.old.share.parts }
-        ensures carried_out { IfSome result (λ reply. is_carried_out answer.status ≡ true → reply ≡ answer) }
-        ensures memory { IfSome result (λ reply. is_carried_out answer.status ≡ false
-            → reply ≡ record { status = status.Memory; payload = [] }) }
-        ensures counted { IfSome result (λ reply. tally.new.answered ≡ tally.old.answered + count_of reply.status) }
+        ensures carried_out { IfSome result (λ t. is_carried_out answer.status ≡ true → t.reply ≡ answer) }
+        ensures synced { IfSome result (λ t. is_carried_out answer.status ≡ true
+            → IsSomeAnd t.receipt (λ synced. IsPrefix events.now synced)) }
+        ensures memory { IfSome result (λ t. is_carried_out answer.status ≡ false
+            → t.reply ≡ record { status = status.Memory; payload = [] }) }
+        ensures counted { IfSome result (λ t. tally.new.answered ≡ tally.old.answered + count_of t.reply.status) }
         ensures stopped { IfNone result (tally.new.answered ≡ tally.old.answered) }
         ensures parts { tally.new.share.parts ≡ tally.old.share.parts }
     {
         if !is_carried_out(answer.status()) {
-            return Some(ReplyBody::bare(self.alloc, Status::Memory));
+            return Some(Told::of_none(ReplyBody::bare(self.alloc, Status::Memory)));
         }
-        if !self.is_kept(rt, gate, count) {
-            return None;
-        }
+        let receipt = self.receipt(rt, gate, events)?;
         if !self.state.lock(rt).count(tally) {
             return None;
         }
-        Some(ReplyBody::of(answer))
+        Some(Told {
+            reply: ReplyBody::of(answer),
+            receipt: Some(receipt),
+        })
     }
 
-    /// Waits until so many calls are in the log, synced, and writes it where nobody else does. False where the server
-    /// has stopped.
-    fn is_kept<G: Gate, R: Wait>(&self, rt: &R, gate: &G, count: usize) -> bool {
+    /// Waits until these events are in the log, synced, and writes it where nobody else does. None where the server has
+    /// stopped.
+    fn receipt<G: Gate, R: Wait>(
+        &self,
+        rt: &R,
+        gate: &G,
+        events: &Beginning<B>,
+    ) -> Option<Receipt<S, B>>
+        ensures { IfSome result (λ synced. IsPrefix events.now synced) }
+    {
         for _ in rt.forever() {
-            match self.next(rt, count) {
-                Next::GoesOut => return true,
-                Next::Stops => return false,
-                Next::Writes(log) => self.write(rt, gate, log),
+            match self.next(rt, events) {
+                Next::GoesOut(receipt) => return Some(receipt),
+                Next::Stops => return None,
+                Next::Writes(keeper) => self.write(rt, gate, keeper),
             }
         }
         unreachable!()
     }
 
-    /// What there is to do for an answer after so many calls, as soon as nobody writes the log or they are synced.
-    fn next<R: Wait>(&self, rt: &R, count: usize) -> Next<S> {
+    /// What there is to do for an answer after these events, as soon as nobody writes the log or they are synced.
+    fn next<R: Wait>(&self, rt: &R, events: &Beginning<B>) -> Next<S, B>
+        ensures { (synced : List PureCall) → result ≡ next.GoesOut synced → IsPrefix events.now synced }
+    {
         let mut state = self
             .changed
-            .wait_while(rt, self.state.lock(rt), |state| state.is_writing(count));
-        state.next(count)
+            .wait_while(rt, self.state.lock(rt), |state| state.is_writing(events));
+        state.next(events)
     }
 
     /// Writes all calls that aren't in the log yet, after the blocks, and wakes all who wait.
-    fn write<G: Gate, R: Wait>(&self, rt: &R, gate: &G, log: RecordLog<S>) {
-        let mut log = log;
-        let (records, count) = self.order.lock(rt).take();
-        let blocks = self.blocks.lock(rt).sync().is_ok();
-        if blocks && append(self.alloc, &mut log, &records) {
-            self.state.lock(rt).put_back(log, count);
+    fn write<G: Gate, R: Wait>(&self, rt: &R, gate: &G, keeper: Keeper<S, B>) {
+        let mut keeper = keeper;
+        if self.append(rt, &mut keeper) {
+            self.state.lock(rt).put_back(keeper);
             self.changed.notify_all();
         } else {
             self.stop(rt, gate);
-            self.state.lock(rt).lay_down(log);
+            self.state.lock(rt).lay_down(keeper);
         }
+    }
+
+    /// Appends all calls that aren't in the log yet, after the blocks. False where a storage fails, or memory runs out.
+    fn append<R: Wait>(&self, rt: &R, keeper: &mut Keeper<S, B>) -> bool {
+        let taken = self.order.lock(rt).take(keeper.events());
+        let Some(Taken { records, events }) = taken else {
+            return false;
+        };
+        if self.blocks.lock(rt).sync().is_err() {
+            return false;
+        }
+        keeper.append(self.alloc, &records, events)
     }
 
     /// No request is replied to any more.
@@ -358,7 +420,8 @@ impl<
         seen: &mut Option<SeenKey>,
         body: &[u8],
     ) -> Option<ReplyBody<'_, A>> {
-        self.reply(rt, gate, tally, seen, body)
+        let Told { reply, receipt: _ } = self.reply(rt, gate, tally, seen, body)?;
+        Some(reply)
     }
 
     fn audit(&self, rt: &R, share: &mut Share<L>) {

@@ -1,8 +1,11 @@
 //! Connections, served by a server that keeps what it has.
 
-ghost use Rattle.std.specs.Prelude.{◌≡◌, ◌+◌, IfOk};
+ghost use Rattle.std.specs.Prelude.{◌≡◌, ◌+◌, true, IfOk, IfSome};
 ghost use Rattle.std.specs.Iterator.{IsFinite};
+ghost use Rattle.consistency_server.specs.History.{log_of};
+ghost use Rattle.kept_server.specs.Kept.{KeepsOrder};
 
+use crate::events::Opened;
 use crate::key::ServerKey;
 use crate::server::{Closed, KeptServer};
 use block_file::BlockFile;
@@ -66,12 +69,18 @@ fn serve_in<
     limits: Limits,
     kept: Kept<S, T, A>,
     blank: Blank,
+    opened: Opened,
 ) -> Result<KeptServed<S, T, A>, Memory>
     requires can { I.can_next connections × IsFinite (I.remaining connections) }
     requires key { kept.ordered.pinned ≡ B.pinned }
+    requires told { log_of B.pinned kept.ordered.history ≡ B.told }
+    requires start { kept.log.file ≡ B.start }
+    requires book { opened.seen.book ≡ B.book }
     requires name { blank.name ≡ L.name }
     requires parts { (blank.parts ≡ L.parts) × (blank.parts ≡ limits.at_once + 1) }
-    ensures { IfOk result (λ s. s.ordered.pinned ≡ B.pinned) }
+    ensures pinned { IfOk result (λ s. s.ordered.pinned ≡ B.pinned) }
+    ensures log { IfOk result (λ s. IfSome s.log (λ log. S.tells ≡ true
+        → KeepsOrder B.start B.told log s.ordered)) }
 {
     let Kept {
         ordered,
@@ -79,7 +88,7 @@ fn serve_in<
         blocks,
     } = kept;
     let (counter, stock) = Counter::<L>::open(blank);
-    let server = KeptServer::<S, T, A, B, L>::new(alloc, ordered, log, blocks, counter);
+    let server = KeptServer::<S, T, A, B, L>::new(alloc, ordered, log, blocks, counter, opened);
     let (server, all, unserved) = match serve_by(
         rt,
         alloc,
@@ -130,12 +139,26 @@ pub fn serve_kept<
     kept: Kept<S, T, A>,
 ) -> Result<KeptServed<S, T, A>, Memory>
     requires { I.can_next connections × IsFinite (I.remaining connections) }
-    ensures { IfOk result (λ s. s.ordered.pinned ≡ kept.ordered.pinned) }
+    ensures pinned { IfOk result (λ s. s.ordered.pinned ≡ kept.ordered.pinned) }
+    // After what it told the log tells a beginning of what the order leaves in it since, in order, each call once; and
+    // unless its storage failed, nothing else. So does whatever a crash leaves.
+    ensures log { IfOk result (λ s. IfSome s.log (λ log. S.tells ≡ true
+        → KeepsOrder kept.log.file (log_of kept.ordered.pinned kept.ordered.history) log s.ordered)) }
 {
     let limits = Limits {
         most: limits.most,
         at_once: limits.at_once.min(limits.most),
     };
     let blank = Blank::new(limits.at_once as u64 + 1);
-    serve_in::<A, G, C, I, S, T, Brand, Brand, R>(rt, alloc, gate, connections, limits, kept, blank)
+    let opened = Opened::new();
+    serve_in::<A, G, C, I, S, T, Brand, Brand, R>(
+        rt,
+        alloc,
+        gate,
+        connections,
+        limits,
+        kept,
+        blank,
+        opened,
+    )
 }

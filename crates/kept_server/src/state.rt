@@ -1,59 +1,68 @@
 //! How far the log is.
 
-ghost use Rattle.std.specs.Prelude.{◌≡◌, ◌+◌, ◌^◌, ◌<◌, true, false};
+ghost use Rattle.std.specs.Prelude.{◌≡◌, ◌+◌, ◌^◌, ◌<◌, List, true, false};
+ghost use mathlib.Core.List.{IsPrefix};
+ghost use Rattle.consistency_server.specs.Answers.{Call as PureCall};
+ghost use Rattle.kept_server.specs.declared.state.Next.TheVariants as next;
 
-use record_log::RecordLog;
+use crate::events::Beginning;
+use crate::keeper::Keeper;
+use crate::key::ServerKey;
+use crate::receipt::Receipt;
 use server_workers::{Counter, Tally};
 use std::sync::ledger::{Ledger, Share};
 use storage::Storage;
 
-/// The log, unless someone writes it; how many calls of those that placed or committed since the server was opened are
-/// in it, synced; whether the server has stopped; and how many calls were answered.
+/// The log, unless someone writes it; which events are in it, synced; whether the server has stopped; and how many calls
+/// were answered.
 #[derive(Drop)]
-pub(crate) struct State<S: Storage, L: Ledger> {
-    log: Option<RecordLog<S>>,
-    synced: usize,
+pub(crate) struct State<S: Storage, B: ServerKey, L: Ledger> {
+    keeper: Option<Keeper<S, B>>,
+    synced: Receipt<S, B>,
     stopped: bool,
     counter: Counter<L>,
 }
 
 /// What there is to do for an answer.
 #[derive(Drop)]
-pub(crate) enum Next<S: Storage> {
-    /// It goes out: all calls before it are synced.
-    GoesOut,
+pub(crate) enum Next<S: Storage, B: ServerKey> {
+    /// It goes out: all events before it are synced.
+    GoesOut(Receipt<S, B>),
     /// Nobody writes the log: here it is, to be written and put back.
-    Writes(RecordLog<S>),
+    Writes(Keeper<S, B>),
     /// The server has stopped.
     Stops,
 }
 
-impl<S: Storage + Drop, L: Ledger> State<S, L> {
+impl<S: Storage + Drop, B: ServerKey, L: Ledger> State<S, B, L> {
     /// Over a log that was opened.
-    pub(crate) fn new(log: RecordLog<S>, counter: Counter<L>) -> State<S, L> {
+    pub(crate) fn new(keeper: Keeper<S, B>, counter: Counter<L>) -> State<S, B, L> {
+        let synced = keeper.receipt();
         State {
-            log: Some(log),
-            synced: 0,
+            keeper: Some(keeper),
+            synced,
             stopped: false,
             counter,
         }
     }
 
-    /// Someone writes the log, and it is too early to go on: so many calls aren't synced yet.
-    pub(crate) fn is_writing(&self, count: usize) -> bool {
-        !self.stopped && self.synced < count && self.log.is_none()
+    /// Someone writes the log, and it is too early to go on: some of these events aren't synced yet.
+    pub(crate) fn is_writing(&self, events: &Beginning<B>) -> bool {
+        !self.stopped && self.keeper.is_none() && !self.synced.has(events)
     }
 
-    /// What there is to do for an answer after so many calls, where nobody writes the log.
-    pub(crate) fn next(&mut self, count: usize) -> Next<S> {
+    /// What there is to do for an answer after these events, where nobody writes the log.
+    pub(crate) fn next(&mut self, events: &Beginning<B>) -> Next<S, B>
+        ensures { (synced : List PureCall) → result ≡ next.GoesOut synced → IsPrefix events.now synced }
+    {
         if self.stopped {
             return Next::Stops;
         }
-        if count <= self.synced {
-            return Next::GoesOut;
+        if self.synced.has(events) {
+            return Next::GoesOut(self.synced.again());
         }
-        match self.log.take() {
-            Some(log) => Next::Writes(log),
+        match self.keeper.take() {
+            Some(keeper) => Next::Writes(keeper),
             None => Next::Stops,
         }
     }
@@ -68,15 +77,15 @@ impl<S: Storage + Drop, L: Ledger> State<S, L> {
         self.counter.count(tally)
     }
 
-    /// Puts the log back: so many calls are synced.
-    pub(crate) fn put_back(&mut self, log: RecordLog<S>, synced: usize) {
-        self.log = Some(log);
-        self.synced = synced;
+    /// Puts the log back, which was written: what is in it is synced.
+    pub(crate) fn put_back(&mut self, keeper: Keeper<S, B>) {
+        self.synced = keeper.receipt();
+        self.keeper = Some(keeper);
     }
 
-    /// Puts a log back of which nothing more is known.
-    pub(crate) fn lay_down(&mut self, log: RecordLog<S>) {
-        self.log = Some(log);
+    /// Puts a log back that couldn't be written.
+    pub(crate) fn lay_down(&mut self, keeper: Keeper<S, B>) {
+        self.keeper = Some(keeper);
     }
 
     /// The server stops. Whether it is the first time.
@@ -92,14 +101,14 @@ impl<S: Storage + Drop, L: Ledger> State<S, L> {
     }
 
     /// The log, if nobody lost it.
-    pub(crate) fn into_log(self) -> Option<RecordLog<S>> {
+    pub(crate) fn into_keeper(self) -> Option<Keeper<S, B>> {
         let State {
-            log,
+            keeper,
             synced: _,
             stopped: _,
             counter: _,
         } = self;
-        log
+        keeper
     }
 
     /// Changes nothing, and tells that what a share has can be counted.

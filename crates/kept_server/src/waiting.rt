@@ -1,36 +1,44 @@
 //! The calls that aren't in the log yet.
 
-ghost use Rattle.std.specs.Prelude.{◌≡◌, List, [], ◌++◌, map, length, IfSome};
+ghost use Rattle.std.specs.Prelude.{◌≡◌, List, [], ◌++◌, map, IfSome};
 ghost use Rattle.consistency_server.specs.Answers.{Call as PureCall};
 ghost use Rattle.server_log.specs.KeptLog.{record_of};
 
+use crate::events::{Beginning, Events};
+use crate::key::ServerKey;
 use consistency_server::{Call, Log, LogFull};
 use record_log::Record;
 use server_log::record_of;
 use std::alloc::Allocator;
 use std::marker::Model;
 use std::mem;
-use std::snapshot::Snapshot;
 
 /// The calls that placed or committed since the server was opened, and the records of those that aren't in the log yet.
-/// Contracts see all of these calls, the oldest first; of those whose records were taken only their number is kept.
+/// Contracts see all of these calls, the oldest first.
 #[derive(Drop)]
-pub(crate) struct Waiting<A: Allocator> {
-    told: Vec<Snapshot<Call<A>>, A>,
+pub(crate) struct Waiting<A: Allocator, B: ServerKey> {
+    events: Events<B>,
     records: Vec<Record<A>, A>,
 }
 
-impl<A: Allocator> Model for Waiting<A> {
+impl<A: Allocator, B: ServerKey> Model for Waiting<A, B> {
     ghost use Rattle.std.specs.Prelude.{◌≡◌, List, ◌++◌, map};
     ghost use Rattle.consistency_server.specs.Answers.{Call};
     ghost use Rattle.server_log.specs.KeptLog.{record_of};
 
     ghost Value = { List Call };
 
-    ghost view = { λ w. map (λ s. s.value) w.told.items };
+    ghost view = { λ w. w.events };
 
-    ghost invariant = { λ w. (taken left : List Call) × (map (λ s. s.value) w.told.items ≡ taken ++ left)
+    ghost invariant = { λ w. (taken left : List Call) × (w.events ≡ taken ++ left)
         × (w.records.items ≡ map record_of left) };
+}
+
+/// Records, and the events up to the last of them.
+#[derive(Drop)]
+pub(crate) struct Taken<A: Allocator, B: ServerKey> {
+    pub(crate) records: Vec<Record<A>, A>,
+    pub(crate) events: Beginning<B>,
 }
 
 /// The record of a call, unless memory runs out or its text is too long.
@@ -43,35 +51,45 @@ fn record_for<A: Allocator + Copy>(alloc: A, call: &Call<A>) -> Option<Record<A>
     record_of(call.kind(), text)
 }
 
-impl<A: Allocator + Copy> Waiting<A> {
+impl<A: Allocator + Copy, B: ServerKey> Waiting<A, B> {
     /// No call yet.
-    pub(crate) fn new(alloc: A) -> Waiting<A>
+    pub(crate) fn new(alloc: A, events: Events<B>) -> Waiting<A, B>
+        requires { events ≡ [] }
         ensures { result ≡ [] }
     {
         Waiting {
-            told: Vec::new(alloc),
+            events,
             records: Vec::new(alloc),
         }
     }
 
-    /// How many calls placed or committed since the server was opened.
-    pub(crate) fn count(&self) -> usize
-        ensures { result ≡ length self.now }
+    /// The calls that placed or committed since the server was opened.
+    pub(crate) fn events(&self) -> &Beginning<B>
+        ensures { result.now ≡ self.now }
     {
-        self.told.len()
+        self.events.so_far()
     }
 
-    /// Takes the records of the calls that aren't in the log yet, the oldest first.
-    pub(crate) fn take(&mut self) -> Vec<Record<A>, A>
+    /// Takes the records of the calls that aren't in the log yet, the oldest first. None where the log has not just
+    /// those before them.
+    pub(crate) fn take(&mut self, in_log: &Beginning<B>) -> Option<Taken<A, B>>
         ensures same { self.new ≡ self.old }
-        ensures last { (taken left : List PureCall) × (self.old ≡ taken ++ left) × (result.items ≡ map record_of left) }
+        ensures taken { IfSome result (λ t. (left : List PureCall) × (t.events ≡ in_log.now ++ left)
+            × (t.records.items ≡ map record_of left)) }
     {
+        let all = self.events.so_far();
+        let more = all.more_than(in_log)?;
+        if more != self.records.len() as u64 {
+            return None;
+        }
+        let events = all.again();
         let alloc = *self.records.allocator();
-        mem::replace(&mut self.records, Vec::new(alloc))
+        let records = mem::replace(&mut self.records, Vec::new(alloc));
+        Some(Taken { records, events })
     }
 }
 
-impl<A: Allocator + Copy> Log<Call<A>> for Waiting<A> {
+impl<A: Allocator + Copy, B: ServerKey> Log<Call<A>> for Waiting<A, B> {
     ghost use Rattle.std.specs.Prelude.{true};
 
     ghost pushed = { λ w. w };
@@ -81,16 +99,15 @@ impl<A: Allocator + Copy> Log<Call<A>> for Waiting<A> {
 
     fn try_push(&mut self, call: Call<A>) -> Result<(), LogFull> {
         let alloc = *self.records.allocator();
-        if self.told.reserve(1).is_err() {
-            return Err(LogFull);
-        }
         if self.records.reserve(1).is_err() {
             return Err(LogFull);
         }
         let Some(record) = record_for(alloc, &call) else {
             return Err(LogFull);
         };
-        self.told.push_reserved(Snapshot::of(&call));
+        if !self.events.add(&call) {
+            return Err(LogFull);
+        }
         self.records.push_reserved(record);
         Ok(())
     }
