@@ -5,4 +5,5 @@ mod Headers
 pub mod Lives
 mod Opened
 mod Reached
+mod Room
 mod Staged

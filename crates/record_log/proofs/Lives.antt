@@ -6,6 +6,7 @@ use Rattle.leaf_ledger.specs.Device.{Disk, History, MayLeave, Leaves, Throughout
 use Rattle.leaf_ledger.specs.Moments.{rest_only, stayed, at_end, left_has}
 use Rattle.record_log.specs.Records.{Record, Tells, TellsWithOrWithout, IsNew, KeepsLog, MayBeLeft}
 use Rattle.record_log.specs.Life.{Addition, Nothing, Appended, Tried, addition_of, cut_short, MayAdd, IsPossible, Follows, Call, Event, Called, Crashed, IsLife, end_of, additions}
+use Rattle.record_log.specs.Places.{KeepsRecords}
 use Rattle.record_log.proofs.Opened.{both_new}
 
 -- ---- one after another
@@ -81,6 +82,24 @@ no_call h = opening h h (stayed (MayBeLeft h) h (λ left may. inl may)) (inr (in
 
 pub same_call : (old new : History) → new ≡ old → Call Nothing old new
 same_call old new same = subst (λ (h : History). Call Nothing old h) (sym same) (no_call old)
+
+-- whatever a call does that leaves the records
+pub kept_call : (old new : History) → KeepsRecords old new → Call Nothing old new
+kept_call old new kept = record { after = after; inside = inside }
+  where
+    follows : (file : List ℕ) → ((rs : List Record) → Tells rs old.now.text → Tells rs file) → Follows (Nothing ∷ []) old file
+    follows file tells = record {
+      before = old.now.text;
+      possible = inl refl;
+      tells = λ rs told. ([], refl, subst (λ (l : List Record). Tells l file) (sym (append-nil rs)) (tells rs told));
+    }
+
+    after : (file : List ℕ) → IsPossible new file → Follows (Nothing ∷ []) old file
+    after file (inl same) = follows file (λ rs told. subst (λ (f : List ℕ). Tells rs f) (sym same) (kept.reads rs told))
+    after file (inr may) = follows file (λ rs told. at_end (Tells rs) old new (kept.any_moment rs told) file may)
+
+    inside : (left : List ℕ) → LeftDuring old new left → Follows (Nothing ∷ []) old left
+    inside left during = follows left (λ rs told. left_has (Tells rs) old new left (kept.any_moment rs told) during)
 
 -- ---- an append
 

@@ -18,12 +18,14 @@ module _ (file : List ℕ) (rs : List Record) (gate g : ℕ) (rest : List ℕ) (
       ap (λ (l : List ℕ). take (gate + 1) l) (split ∙ sym (append_assoc (chain rs) (g ∷ []) rest))
       ∙ take_at (chain rs ++ g ∷ []) rest (gate + 1) (omega (arith, size, length-append (chain rs) (g ∷ [])))
 
+  -- where the bytes up to the gate are the same, it has the records and the gate
+  pub same_front : (left : List ℕ) → KeepsFront (gate + 1) file left → left ≡ chain rs ++ g ∷ drop (gate + 1) left
+  same_front left same =
+      sym (take-append-drop (gate + 1) left) ∙ ap (λ (l : List ℕ). l ++ drop (gate + 1) left) (same ∙ front) ∙ append_assoc (chain rs) (g ∷ []) (drop (gate + 1) left)
+
   -- what stands after the gate doesn't count
   pub kept_front : (left : List ℕ) → KeepsFront (gate + 1) file left → Tells rs left
-  kept_front left same =
-      let whole : left ≡ chain rs ++ g ∷ drop (gate + 1) left =
-      sym (take-append-drop (gate + 1) left) ∙ ap (λ (l : List ℕ). l ++ drop (gate + 1) left) (same ∙ front) ∙ append_assoc (chain rs) (g ∷ []) (drop (gate + 1) left) in
-      shut_after left rs g (drop (gate + 1) left) shut short whole
+  kept_front left same = shut_after left rs g (drop (gate + 1) left) shut short (same_front left same)
 
   -- more records, whose gate isn't open yet
   module _ (bs : List Record) (some : 0 < length bs) where

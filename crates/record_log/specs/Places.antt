@@ -40,6 +40,11 @@ pub record AddsAll (added : List Record) (old new : History) : Type 0 where
   pub file : (rs : List Record) → Tells rs old.now.text
       → new.now.text ≡ written 0 (chain (rs ++ added) ++ closed_gate ∷ []) old.now.text
 
+-- At every moment from the old one to the new one a crash leaves the records before, and in the end a read gives them.
+pub record KeepsRecords (old new : History) : Type 0 where
+  pub any_moment : (rs : List Record) → Tells rs old.now.text → Throughout (Tells rs) old new
+  pub reads : (rs : List Record) → Tells rs old.now.text → Tells rs new.now.text
+
 -- What is true of a log that is read back: its file is at rest, it has reached a gate after some records, and where it
 -- has ended that gate isn't open.
 pub record IsAt (disk : Disk) (size gate : ℕ) (ended : Bool) : Type 0 where

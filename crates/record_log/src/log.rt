@@ -1,6 +1,6 @@
 //! Logs of records.
 
-ghost use Rattle.std.specs.Prelude.{◌≡◌, ◌≢◌, ◌<◌, ◌≤◌, List, [], ◌∷◌, ◌++◌, true, false, length, IfOk, IfErr, OnOk};
+ghost use Rattle.std.specs.Prelude.{◌≡◌, ◌≢◌, ◌<◌, ◌≤◌, List, [], ◌∷◌, ◌+◌, ◌++◌, true, false, length, IfOk, IfErr, OnOk};
 ghost use Rattle.std.specs.Prelude.{OnErr, IsErr, IsErrOf};
 ghost use Rattle.leaf_ledger.specs.Device.{at_rest, written, Leaves, Throughout, HasRisen};
 ghost use Rattle.record_log.specs.Records.{Record as PureRecord, closed_gate, chain, Tells, IsNew, IsDamaged};
@@ -10,7 +10,7 @@ ghost use Rattle.record_log.specs.Life.{Nothing, Call, addition_of};
 use crate::chain::find_all;
 use crate::error::LogError;
 use crate::laying::laid_out;
-use crate::putting::put;
+use crate::putting::{put, put_behind};
 use crate::record::Record;
 use std::alloc::Allocator;
 use std::marker::Model;
@@ -158,6 +158,43 @@ impl<S: Storage> RecordLog<S> {
         self.gate = gate + (bytes.len() - 1);
         self.usable = true;
         Ok(())
+    }
+
+    /// Puts so many zeros behind the records, and syncs. A file that an append makes no longer is synced in about half
+    /// of the time; and the zeros are written over. Where memory runs out nothing is done.
+    pub fn make_room<B: Allocator>(&mut self, alloc: B, room: usize) -> Result<(), LogError>
+        requires usable { self.old.usable ≡ true }
+        // While it runs, a crash leaves the records.
+        ensures any_moment { S.tells ≡ true → (rs : List PureRecord) → Tells rs self.old.file.now.text
+            → Throughout (Tells rs) self.old.file self.new.file }
+        // What a read gives, too, whatever is answered.
+        ensures reads { S.tells ≡ true → (rs : List PureRecord) → Tells rs self.old.file.now.text
+            → Tells rs self.new.file.now.text }
+        // Behind the records and the gate after them stand so many bytes.
+        ensures room { OnOk result (S.tells ≡ true → (rs : List PureRecord) → Tells rs self.old.file.now.text
+            → length (chain rs) + room < length self.new.file.now.text) }
+        // A step of the file's life, of which `records_stay` speaks.
+        ensures step { S.tells ≡ true → Call Nothing self.old.file self.new.file }
+        ensures usable { OnOk result (self.new.usable ≡ true) }
+        ensures memory { IsErrOf result LogError.Memory → self.new ≡ self.old }
+        ensures later { self.old.faults ≤ self.new.faults }
+        ensures device { IsErrOf result LogError.Device → (self.new.usable ≡ false)
+            × HasRisen self.old.faults self.new.faults }
+        ensures ours { IsErrOf result LogError.Damaged → ⊥ }
+    {
+        let gate = self.gate;
+        let zeros = Vec::from_elem(alloc, 0, room)?;
+        let made = put_behind(&mut self.storage, gate, &zeros);
+        self.usable = made.is_ok();
+        Ok(made?)
+    }
+
+    /// How many bytes the records take, each with the gate before it. Of no meaning once the storage has failed.
+    pub fn size(&self) -> usize
+        ensures { self.now.usable ≡ true → S.tells ≡ true → (rs : List PureRecord) → Tells rs self.now.file.now.text
+            → result ≡ length (chain rs) }
+    {
+        self.gate
     }
 
     /// Whether records can be added: not after the storage has failed.

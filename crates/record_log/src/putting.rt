@@ -1,9 +1,9 @@
-//! Records put after others.
+//! Records put after others, and room for more of them.
 
 ghost use Rattle.std.specs.Prelude.{◌≡◌, ◌+◌, ◌-◌, ◌<◌, ◌≤◌, List, true, length, OnOk, OnErr};
 ghost use Rattle.leaf_ledger.specs.Device.{end_of_files, HasCause};
-ghost use Rattle.record_log.specs.Records.{Record};
-ghost use Rattle.record_log.specs.Places.{IsReady, IsLaidOut, MayAddAll, AddsAll};
+ghost use Rattle.record_log.specs.Records.{Record, Tells, chain};
+ghost use Rattle.record_log.specs.Places.{IsReady, IsLaidOut, MayAddAll, AddsAll, KeepsRecords};
 
 use crate::chain::OPEN;
 use leaf_ledger::DeviceError;
@@ -26,5 +26,24 @@ pub(crate) fn put<S: Storage>(storage: &mut S, gate: usize, bytes: &[u8]) -> Res
 {
     write_through(storage, gate + 1, &bytes[1..])?;
     write_through(storage, gate, &[OPEN])?;
+    Ok(())
+}
+
+/// Puts bytes behind the gate where the records end, and syncs: they don't count.
+pub(crate) fn put_behind<S: Storage>(
+    storage: &mut S,
+    gate: usize,
+    bytes: &[u8],
+) -> Result<(), DeviceError>
+    requires bounded { gate + 1 < end_of_files }
+    requires ready { S.tells ≡ true → IsReady (S.history storage.old).now gate }
+    // Whatever is answered, the records stay.
+    ensures kept { S.tells ≡ true → KeepsRecords (S.history storage.old) (S.history storage.new) }
+    ensures room { OnOk result (S.tells ≡ true → (rs : List Record) → Tells rs (S.history storage.old).now.text
+        → length (chain rs) + length bytes.now < length (S.history storage.new).now.text) }
+    ensures ready { OnOk result (S.tells ≡ true → IsReady (S.history storage.new).now gate) }
+    ensures cause { HasCause (S.fault_count storage.old) (S.fault_count storage.new) result }
+{
+    write_through(storage, gate + 1, bytes)?;
     Ok(())
 }
