@@ -27,6 +27,13 @@ stays start calls adds old new just call told tell file possible =
     let t = f.tells (told ++ map record_of calls) (just told tell f.before f.possible) in
     (t.0, t.2)
 
+-- a call that adds nothing leaves just these
+pub nothing_added : (start : History) (calls : List Call) (old new : History) → HasJust start calls old → life.Call life.Nothing old new → HasJust start calls new
+nothing_added start calls old new just call told tell file possible =
+    let f = call.after file possible in
+    let t = f.tells (told ++ map record_of calls) (just told tell f.before f.possible) in
+    subst (λ (rs : List Record). Tells rs file) (ap (λ l. (told ++ map record_of calls) ++ l) t.1 ∙ append-nil (told ++ map record_of calls)) t.2
+
 -- an append that is done adds just its records
 pub appended : (start : History) (calls left : List Call) (records : List Record) (old new : History) → HasJust start calls old → records ≡ map record_of left → life.Call (life.Appended records) old new
     → HasJust start (calls ++ left) new

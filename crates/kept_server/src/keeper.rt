@@ -9,17 +9,23 @@ ghost use Rattle.kept_server.specs.Kept.{IsKept};
 use crate::events::Beginning;
 use crate::key::ServerKey;
 use crate::receipt::Receipt;
-use record_log::{Record, RecordLog};
+use record_log::{LogError, Record, RecordLog};
 use std::alloc::Allocator;
 use std::marker::Model;
 use storage::Storage;
 
+/// Room is made anew where less than this part of it is left.
+const LEAST_PART: usize = 16;
+
 /// The log, and which of the server's events are in it. They are synced, whatever became of the storage; and unless it
-/// failed, there are no others.
+/// failed, there are no others. And how much room is made behind its records at once, and how long they are when more is
+/// made.
 #[derive(Drop)]
 pub(crate) struct Keeper<S: Storage, B: ServerKey> {
     log: RecordLog<S>,
     events: Beginning<B>,
+    ahead: usize,
+    next_room: usize,
 }
 
 impl<S: Storage, B: ServerKey> Model for Keeper<S, B> {
@@ -34,12 +40,18 @@ impl<S: Storage, B: ServerKey> Model for Keeper<S, B> {
 }
 
 impl<S: Storage + Drop, B: ServerKey> Keeper<S, B> {
-    /// The log that the server was opened with, before the first event.
-    pub(crate) fn new(log: RecordLog<S>, events: Beginning<B>) -> Keeper<S, B>
+    /// The log that the server was opened with, before the first event; and how many bytes of room it is given at once, 0
+    /// for none.
+    pub(crate) fn new(log: RecordLog<S>, events: Beginning<B>, ahead: usize) -> Keeper<S, B>
         requires { (log.file ≡ B.start) × (events ≡ []) }
         ensures { result.events ≡ [] }
     {
-        Keeper { log, events }
+        Keeper {
+            log,
+            events,
+            ahead,
+            next_room: 0,
+        }
     }
 
     /// The events that are in the log.
@@ -49,8 +61,9 @@ impl<S: Storage + Drop, B: ServerKey> Keeper<S, B> {
         &self.events
     }
 
-    /// Appends the records of the events that come next, and syncs. False where the storage fails, or memory runs out.
-    pub(crate) fn append<A: Allocator, C: Allocator>(
+    /// Appends the records of the events that come next, and syncs, after room was made for them where little is left.
+    /// False where the storage fails, or memory runs out.
+    pub(crate) fn append<A: Allocator + Copy, C: Allocator>(
         &mut self,
         alloc: A,
         records: &[Record<C>],
@@ -59,9 +72,45 @@ impl<S: Storage + Drop, B: ServerKey> Keeper<S, B> {
         requires { (left : List PureCall) × (events ≡ self.old.events ++ left) × (records.now ≡ map record_of left) }
         ensures { result ≡ true → self.new.events ≡ events }
     {
-        if !self.log.usable() {
+        if !self.log.usable() || !self.make_room(alloc) {
             return false;
         }
+        self.add(alloc, records, events)
+    }
+
+    /// Makes room behind the records where little of what was made before is left. Where memory runs out for it there is
+    /// none. False where the storage fails.
+    fn make_room<A: Allocator>(&mut self, alloc: A) -> bool
+        requires { self.old.log.usable ≡ true }
+        ensures events { self.new.events ≡ self.old.events }
+        ensures usable { result ≡ true → self.new.log.usable ≡ true }
+    {
+        let size = self.log.size();
+        if self.ahead == 0 || size < self.next_room {
+            return true;
+        }
+        match self.log.make_room(alloc, self.ahead) {
+            Ok(()) => {
+                self.next_room = size.saturating_add(self.ahead - self.ahead / LEAST_PART);
+                true
+            }
+            Err(LogError::Memory) => true,
+            Err(LogError::Device | LogError::Damaged) => false,
+        }
+    }
+
+    /// Appends the records of the events that come next, and syncs. False where the storage fails, or memory runs out.
+    fn add<A: Allocator, C: Allocator>(
+        &mut self,
+        alloc: A,
+        records: &[Record<C>],
+        events: Beginning<B>,
+    ) -> bool
+        requires usable { self.old.log.usable ≡ true }
+        requires next { (left : List PureCall) × (events ≡ self.old.events ++ left)
+            × (records.now ≡ map record_of left) }
+        ensures { result ≡ true → self.new.events ≡ events }
+    {
         match self.log.append_all(alloc, records) {
             Ok(()) => {
                 self.events = events;
@@ -83,7 +132,12 @@ impl<S: Storage + Drop, B: ServerKey> Keeper<S, B> {
         ensures kept { IfSome result (λ log. S.tells ≡ true → IsKept B.start log self.events) }
         ensures beginning { IfSome result (λ _. IsPrefix self.events all.now) }
     {
-        let Keeper { log, events } = self;
+        let Keeper {
+            log,
+            events,
+            ahead: _,
+            next_room: _,
+        } = self;
         if all.more_than(&events).is_none() {
             return None;
         }

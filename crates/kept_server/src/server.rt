@@ -30,11 +30,16 @@ use std::alloc::Allocator;
 use std::sync::atomic::{AtomicU64, Ordering};
 use std::sync::ledger::{Ledger, Share};
 use std::sync::{Condvar, Mutex, Wait};
+use std::thread::yield_now;
 use storage::Storage;
 use wire::{RequestKind, Status, request_of};
 
-/// The order under its lock, the log under another, the blocks under a third, and the number of the last call at the
-/// gate. Whoever writes the log has taken it out, and holds no lock meanwhile.
+/// How often whoever writes the log lets other threads run at most, so that calls which have come are written with it.
+const MOST_YIELDS: u32 = 100;
+
+/// The order under its lock, the log under another, the blocks under a third, the number of the last call at the gate,
+/// and how many calls have come that aren't placed yet. Whoever writes the log has taken it out, and holds no lock
+/// meanwhile.
 #[derive(Drop)]
 pub(crate) struct KeptServer<S: Storage, T: Storage, A: Allocator, B: ServerKey, L: Ledger> {
     alloc: A,
@@ -43,6 +48,7 @@ pub(crate) struct KeptServer<S: Storage, T: Storage, A: Allocator, B: ServerKey,
     changed: Condvar,
     blocks: Mutex<Blocks<T, A>>,
     last_call: AtomicU64,
+    coming: AtomicU64,
 }
 
 /// What is left of a server: the order, the log and the blocks, and whether it stopped before.
@@ -98,12 +104,13 @@ impl<S: Storage + Drop, T: Storage + Drop, A: Allocator + Copy, B: ServerKey, L:
     B,
     L,
 > {
-    /// Over an order and its log, and the blocks.
+    /// Over an order and its log, which is given so many bytes of room at once, and the blocks.
     pub(crate) fn new(
         alloc: A,
         ordered: Ordered<A>,
         log: RecordLog<S>,
         blocks: BlockFile<T, A>,
+        ahead: usize,
         counter: Counter<L>,
         opened: Opened,
     ) -> KeptServer<S, T, A, B, L>
@@ -113,7 +120,7 @@ impl<S: Storage + Drop, T: Storage + Drop, A: Allocator + Copy, B: ServerKey, L:
         requires book { opened.seen.book ≡ B.book }
     {
         let events = opened.named::<B>();
-        let keeper = Keeper::new(log, events.so_far().again());
+        let keeper = Keeper::new(log, events.so_far().again(), ahead);
         KeptServer {
             alloc,
             order: Mutex::new(Order::new(alloc, ordered, events)),
@@ -121,6 +128,7 @@ impl<S: Storage + Drop, T: Storage + Drop, A: Allocator + Copy, B: ServerKey, L:
             changed: Condvar::new(),
             blocks: Mutex::new(Blocks::new(blocks)),
             last_call: AtomicU64::new(0),
+            coming: AtomicU64::new(0),
         }
     }
 
@@ -136,6 +144,7 @@ impl<S: Storage + Drop, T: Storage + Drop, A: Allocator + Copy, B: ServerKey, L:
             changed: _,
             blocks,
             last_call: _,
+            coming: _,
         } = self;
         let order = order.into_inner();
         let state = state.into_inner();
@@ -202,21 +211,31 @@ impl<S: Storage + Drop, T: Storage + Drop, A: Allocator + Copy, B: ServerKey, L:
                 .fetch_add(1, Ordering::SeqCst)
                 .wrapping_add(1),
         );
+        self.coming.fetch_add(1, Ordering::SeqCst);
         let Ok(signer) = signer_of(self.alloc, kind, text) else {
-            return Some(Told::of_none(ReplyBody::bare(self.alloc, Status::Memory)));
+            return Some(self.unplaced());
         };
         // A copy is handed down, since the user is asked for afterwards.
         let copy = signer;
         let verified = self.verification(rt, *seen, copy, text);
         let Ok(owned) = Vec::from_slice(self.alloc, text) else {
-            return Some(Told::of_none(ReplyBody::bare(self.alloc, Status::Memory)));
+            return Some(self.unplaced());
         };
         let call = Call::new(kind, owned);
         let user = certifier(signer);
         let known = verified.as_ref();
         let (answer, later, events) = self.order.lock(rt).call(call, known, user);
+        self.coming.fetch_sub(1, Ordering::SeqCst);
         see(seen, later);
         self.send(rt, gate, tally, answer, &events)
+    }
+
+    /// What is told of a call that has come and isn't placed, since memory runs out.
+    fn unplaced(&self) -> Told<'_, S, A, B>
+        ensures { result.reply ≡ record { status = status.Memory; payload = [] } }
+    {
+        self.coming.fetch_sub(1, Ordering::SeqCst);
+        Told::of_none(ReplyBody::bare(self.alloc, Status::Memory))
     }
 
     /// The answer to a call, once these events are in the log, synced. One that wasn't carried out, for want of
@@ -294,8 +313,19 @@ impl<S: Storage + Drop, T: Storage + Drop, A: Allocator + Copy, B: ServerKey, L:
         }
     }
 
+    /// Lets calls that have come be placed, for a while at most, so that they share the syncs.
+    fn wait_for_coming(&self) {
+        for _ in 0..MOST_YIELDS {
+            if self.coming.load(Ordering::SeqCst) == 0 {
+                return;
+            }
+            yield_now();
+        }
+    }
+
     /// Appends all calls that aren't in the log yet, after the blocks. False where a storage fails, or memory runs out.
     fn append<R: Wait>(&self, rt: &R, keeper: &mut Keeper<S, B>) -> bool {
+        self.wait_for_coming();
         let taken = self.order.lock(rt).take(keeper.events());
         let Some(Taken { records, events }) = taken else {
             return false;

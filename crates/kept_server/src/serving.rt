@@ -29,6 +29,8 @@ pub struct Kept<S: Storage, T: Storage, A: Allocator> {
     pub ordered: Ordered<A>,
     /// Its log.
     pub log: RecordLog<S>,
+    /// How many bytes of room are made at once behind the log's records, so that its file seldom gets longer; 0 for none.
+    pub ahead: usize,
     /// The blocks.
     pub blocks: BlockFile<T, A>,
 }
@@ -85,10 +87,13 @@ fn serve_in<
     let Kept {
         ordered,
         log,
+        ahead,
         blocks,
     } = kept;
     let (counter, stock) = Counter::<L>::open(blank);
-    let server = KeptServer::<S, T, A, B, L>::new(alloc, ordered, log, blocks, counter, opened);
+    let server = KeptServer::<S, T, A, B, L>::new(
+        alloc, ordered, log, blocks, ahead, counter, opened,
+    );
     let (server, all, unserved) = match serve_by(
         rt,
         alloc,

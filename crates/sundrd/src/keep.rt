@@ -20,6 +20,9 @@ pub(crate) type KeptFiles = Kept<FileStorage, FileStorage, Global>;
 /// The mode of a file that its owner alone reads and writes.
 const OWNERS_ALONE: u32 = 0o600;
 
+/// How many bytes of room are made at once behind the records of the log: those of about 200 operations.
+const LOG_AHEAD: usize = 1 << 20;
+
 /// The byte before a record of the log.
 const OPEN_GATE: u8 = 1;
 
@@ -167,6 +170,7 @@ pub(crate) fn open_kept<R: AllocGlobal + Eprint + Files<File = File>>(
         Ok(blocks) => Ok(Kept {
             ordered,
             log,
+            ahead: LOG_AHEAD,
             blocks,
         }),
         Err((fault, storage)) => {

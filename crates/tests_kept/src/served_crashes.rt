@@ -52,6 +52,7 @@ fn count_kept(rt: &impl Host, devices: Devices, pinned: PublicKey) -> (usize, De
     let Kept {
         ordered,
         log,
+        ahead: _,
         blocks,
     } = kept;
     let_go(ordered);
@@ -101,10 +102,11 @@ fn count_ways<R: ThreadHost>(rt: &R, line: &Line, said: &[Said], failing: (Faili
     panic!(rt; "too many ways");
 }
 
-/// How many calls of a log's device a server makes: eight of a new log, and four of each of five calls.
-const LOG_CALLS: u64 = 8 + 5 * 4;
+/// How many calls of a log's device a server makes: eight of a new log, and of each of five calls two that make room and
+/// four that append.
+const LOG_CALLS: u64 = 8 + 5 * 6;
 
-/// Where a write or its sync fails, of which there are 26, an extent waits, and a crash leaves it in 18 ways.
+/// Where a write or its sync fails, of which there are 36, an extent waits, and a crash leaves it in 18 ways.
 #[test]
 fn each_call_of_the_log_fails(rt: HostRuntime) {
     let line = three_operations(&rt);
@@ -113,7 +115,7 @@ fn each_call_of_the_log_fails(rt: HostRuntime) {
     for call in 0..=LOG_CALLS {
         cases = cases.saturating_add(count_ways(&rt, &line, &said, (Failing::Log, call)));
     }
-    assert_eq!(rt; cases, 2 + 26 * 18 + 1);
+    assert_eq!(rt; cases, 2 + 36 * 18 + 1);
 }
 
 /// How many calls of the blocks' device a server makes: two of an opening, a write and a sync of a block, two writes and
