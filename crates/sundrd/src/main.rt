@@ -63,6 +63,8 @@ enum Fault {
     Connection(io::Error),
     #[error("the log wasn't written to its end")]
     Log,
+    #[error("no thread can be started: out of memory, or the system has no room for one more")]
+    Thread,
 }
 
 /// What the help says at its end.
@@ -472,6 +474,12 @@ fn run<
     }
 }
 
+/// Tells of a fault past the words: the status with which the program ends.
+fn tell<R: Eprint>(rt: &R, error: anyhow::Error) -> u8 {
+    let _ = eprintln!(rt; "sundrd: {error}");
+    FAILED
+}
+
 /// All that the program does: it tells the status with which it ends.
 fn run_to_end<
     R: Runtime
@@ -485,27 +493,25 @@ fn run_to_end<
 >(rt: &R, halt: &Halt) {
     let status = match run(rt, halt) {
         Ok(status) => status,
-        Err(error) => {
-            let _ = eprintln!(rt; "sundrd: {error}");
-            FAILED
-        }
+        Err(error) => tell(rt, error),
     };
     halt.tell(rt, status);
 }
 
+/// Where the status is told: for who waits for it, and for who tells it.
+fn two_of_halt(alloc: Global) -> Result<(Arc<Halt>, Arc<Halt>), Memory> {
+    let halt = Arc::new(alloc, Halt::new())?;
+    let theirs = Arc::try_clone(&halt)?;
+    Ok((halt, theirs))
+}
+
 /// All is done in a thread of its own, so that the program can end while connections are still waited for.
 fn main(rt: HostRuntime) -> ExitCode {
-    let Ok(halt) = Arc::new(rt.alloc(), Halt::new()) else {
-        return ExitCode::FAILURE;
-    };
-    let Ok(theirs) = Arc::try_clone(&halt) else {
-        return ExitCode::FAILURE;
-    };
-    match thread::spawn(&rt, move || run_to_end(&rt, &*theirs)) {
-        Ok(_worker) => ExitCode::from(halt.wait(&rt)),
-        Err(_) => {
-            let _ = eprintln!(rt; "sundrd: no thread can be started");
-            ExitCode::FAILURE
-        }
-    }
+    ExitCode::from(match two_of_halt(rt.alloc()) {
+        Ok((halt, theirs)) => match thread::spawn(&rt, move || run_to_end(&rt, &*theirs)) {
+            Ok(_worker) => halt.wait(&rt),
+            Err(_) => tell(&rt, Fault::Thread.into()),
+        },
+        Err(memory) => tell(&rt, memory.into()),
+    })
 }
