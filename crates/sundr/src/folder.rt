@@ -2,6 +2,7 @@
 //! file that is put.
 
 use crate::hindrance::{FileFault, FolderFile, Hindrance};
+use crate::opening::{check_no_links, open_to_write};
 use crate::place::check_files;
 use commands::Refusal;
 use drawn_key::{LEDGER_SIZE, kept_key};
@@ -9,7 +10,7 @@ use file_commands::Line;
 use itable::FILE_SIZE;
 use kept_blocks::{KeptBlocks, MOST_BLOCKS, MOST_BYTES};
 use layout::{Memory, Text, User};
-use leaf_ledger::{FileDevice, MemoryDevice};
+use leaf_ledger::MemoryDevice;
 use lms_sign::{
     ID_SIZE, KEPT_SIZE, KEY_SIZE, PrivateKey, PublicKey, SEED_SIZE, SIGNATURE_SIZE, verify,
 };
@@ -513,13 +514,15 @@ fn check_sizes(rt: &HostRuntime, folder: &str, count: u8) -> Result<(), Hindranc
     )
 }
 
-/// Refuses a folder that isn't this user's, or hasn't the files that it had. Nothing is written.
+/// Refuses a folder that isn't this user's, in which a link stands for a file that is written, or that hasn't the files
+/// that it had. Nothing is written.
 pub(crate) fn check_folder(
     rt: &HostRuntime,
     line: &Line<'_>,
     keys: &Keys,
 ) -> Result<(), Hindrance> {
     check_user(rt, line.dir, line.user)?;
+    check_no_links(rt, line.dir, count_of(keys))?;
     check_first_ledger(rt, line.dir)?;
     check_sizes(rt, line.dir, count_of(keys))?;
     check_files(rt, line.dir, count_of(keys), line.moved)
@@ -537,13 +540,7 @@ pub(crate) fn count_of(keys: &Keys) -> u8 {
 /// whatever cause, that is refused, since two processes would sign with one leaf.
 fn lock_ledger(rt: &HostRuntime, folder: &str, number: u8) -> Result<File, Hindrance> {
     let ledger = FolderFile::Ledger(number);
-    let path = path_of(rt.alloc(), folder, ledger)?;
-    let file = OpenOptions::new()
-        .read(true)
-        .write(true)
-        .create(true)
-        .open(rt, &path)
-        .map_err(|fault| device_hindrance(ledger, &fault))?;
+    let file = open_to_write(rt, folder, ledger)?;
     match file.try_lock() {
         Ok(()) => Ok(file),
         Err(TryLockError::WouldBlock) => {
@@ -614,14 +611,4 @@ pub(crate) fn read_device(
 ) -> Result<MemoryDevice<Global>, Hindrance> {
     let text = read_present(rt, folder, file)?;
     Ok(MemoryDevice::new(rt.alloc(), text)?)
-}
-
-/// The device over a file of a folder.
-pub(crate) fn open_device(
-    rt: &HostRuntime,
-    folder: &str,
-    file: FolderFile,
-) -> Result<FileDevice<Global>, Hindrance> {
-    let path = path_of(rt.alloc(), folder, file)?;
-    FileDevice::open(rt, rt.alloc(), folder, &path).map_err(|fault| device_hindrance(file, &fault))
 }

@@ -142,6 +142,8 @@ pub(crate) enum FileFault {
     InUse,
     /// It can't be locked where it is.
     NoLocks,
+    /// It is a link, which isn't followed.
+    Link,
     /// It has nothing, but once had: another file tells so.
     Gone,
     /// It has nothing, but once had: the folder tells where it was.
@@ -195,6 +197,7 @@ impl FileFault {
             FileFault::NoDirectory => "is no directory",
             FileFault::NoFile => "is no file",
             FileFault::Full => "no space left on the disk",
+            FileFault::Link => "is a symbolic link, which isn't followed",
             FileFault::Other => "can't be read or written",
             FileFault::NoSeed => "not a seed of 48 bytes",
             FileFault::Twin => TWIN,

@@ -12,6 +12,7 @@ mod getting;
 mod hindrance;
 mod init;
 mod lost;
+mod opening;
 mod pace;
 mod place;
 mod putting;
@@ -36,7 +37,7 @@ use file_commands::{Line, LineError, NewFolder, Request, Wanted};
 use file_session::{Resumed, Session, refusal_of};
 use folder::{
     Keys, Seed, check_folder, check_ledger, check_user, keep_blocks, keep_leaves, last_signed,
-    lock_ledgers, open_device, read_blocks, read_content, read_kept, read_keys, read_seeds,
+    lock_ledgers, read_blocks, read_content, read_kept, read_keys, read_seeds,
 };
 use found::{Found, found_beside};
 use getting::get_tree;
@@ -47,6 +48,7 @@ use layout::{User, let_go};
 use leaf_ledger::{Device, FileDevice};
 use lms_sign::{PrivateKey, PublicKey};
 use lost::tell_lost;
+use opening::open_device;
 use place::{Place, check_again, check_place, tell_place};
 use putting::put_tree;
 use reaching::{Contact, Reach, Server, Stream};

@@ -4,6 +4,7 @@
 
 use crate::folder::{OWNERS_ALONE, device_hindrance, path_of};
 use crate::hindrance::{FolderFile, Hindrance};
+use crate::opening::open_present_to_write;
 use std::fs::{self, File, OpenOptions};
 use std::io::{self, ErrorKind};
 use std::os::unix::fs::{FileExt, OpenOptionsExt};
@@ -31,27 +32,22 @@ fn write_again(rt: &HostRuntime, file: &File) -> io::Result<()> {
     file.sync_all()
 }
 
-/// The same, where there is such a file.
-fn write_again_at(rt: &HostRuntime, path: &str) -> io::Result<()> {
-    match OpenOptions::new().read(true).write(true).open(rt, path) {
-        Ok(file) => write_again(rt, &file),
-        Err(fault) if fault.kind() == ErrorKind::NotFound => Ok(()),
-        Err(fault) => Err(fault),
-    }
+/// The same of a file of the folder.
+fn write_own_again(rt: &HostRuntime, file: FolderFile, opened: &File) -> Result<(), Hindrance> {
+    write_again(rt, opened).map_err(|fault| device_hindrance(file, &fault))
 }
 
-/// Writes the ledgers, which are locked, and the journal over themselves.
+/// Writes the ledgers, which are locked, and the journal, where there is one, over themselves.
 fn write_all_again(rt: &HostRuntime, folder: &str, ledgers: &[File]) -> Result<(), Hindrance> {
     let mut number = 0u8;
     for ledger in ledgers {
-        write_again(rt, ledger).map_err(|fault| device_hindrance(
-            FolderFile::Ledger(number),
-            &fault,
-        ))?;
+        write_own_again(rt, FolderFile::Ledger(number), ledger)?;
         number = number.saturating_add(1);
     }
-    let journal = path_of(rt.alloc(), folder, FolderFile::Journal)?;
-    write_again_at(rt, &journal).map_err(|fault| device_hindrance(FolderFile::Journal, &fault))
+    match open_present_to_write(rt, folder, FolderFile::Journal)? {
+        Some(journal) => write_own_again(rt, FolderFile::Journal, &journal),
+        None => Ok(()),
+    }
 }
 
 /// A command begins to work in a folder, whose ledgers are locked. Where the one before didn't come to its end, or a device
