@@ -3,7 +3,7 @@
 use crate::folder::{last_declared, read_present};
 use crate::hindrance::FolderFile;
 use crate::tree::Shown;
-use directory::Target as Place;
+use directory::{MOST_ENTRIES, Target as Place};
 use layout::{Text, User};
 use lms_sign::SIGNATURE_SIZE;
 use std::alloc::Global;
@@ -89,6 +89,31 @@ fn write_others<W: fmt::Write>(f: &mut fmt::Formatter<W>, owner: u8) -> fmt::Res
     }
 }
 
+/// Why a name may not have been given in a directory that the user may change.
+fn write_unnamed<W: fmt::Write>(f: &mut fmt::Formatter<W>, own: User, owner: u8) -> fmt::Result {
+    if owner == own.get() {
+        write!(f, "the name was taken, or nothing to name it in was there")?;
+    } else {
+        write_others(f, owner)?;
+    }
+    write!(f, ", or the directory had {MOST_ENTRIES} names by then")
+}
+
+/// Why a change of what stands at an i-number may have had no effect.
+fn write_why_at<W: fmt::Write>(
+    f: &mut fmt::Formatter<W>,
+    own: User,
+    owner: u8,
+    action: &Action<Global>,
+) -> fmt::Result {
+    let is_own = owner == own.get();
+    match action {
+        Action::Link(_) if is_own || owner >= FIRST_GROUP => write_unnamed(f, own, owner),
+        _ if is_own => write!(f, "it didn't fit what was there by then"),
+        _ => write_others(f, owner),
+    }
+}
+
 /// Why a user's change may have had no effect.
 fn write_why<W: fmt::Write>(
     f: &mut fmt::Formatter<W>,
@@ -96,11 +121,9 @@ fn write_why<W: fmt::Write>(
     change: &Change<Global>,
 ) -> fmt::Result {
     let owner = change.principal().get();
-    if owner != own.get() {
-        return write_others(f, owner);
-    }
     match change.action() {
-        AnyAction::At(_) => write!(f, "it didn't fit what was there by then"),
+        AnyAction::At(action) => write_why_at(f, own, owner, action),
+        AnyAction::OfTable(_) if owner != own.get() => write_others(f, owner),
         AnyAction::OfTable(change) => write!(f, "{}", words_of_table(*change)),
     }
 }
