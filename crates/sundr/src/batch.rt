@@ -10,7 +10,7 @@ use crate::target::Target;
 use crate::{
     Beside, Opened, Outcome, OwnClient, OwnSession, WORDS, Work, answer, do_work, end, into_target,
     lock_and_open, outcome_of, own_key_digits, parted, print_with_reason, refuse, session_of, tell,
-    tell_leaves, tells_cut, told_of,
+    tell_leaves, told_of,
 };
 use commands::{Answer, Command, Refusal};
 use file_commands::{Line, LineError, SplitError, Wanted, split_words};
@@ -70,7 +70,7 @@ fn run<H: Net<Stream = TcpStream>>(
     session: &mut OwnSession<'_, H>,
     command: &Command<'_>,
 ) -> Outcome {
-    answered(server, answer(rt, session, command))
+    answered(server, answer(rt, server, session, command))
 }
 
 /// Puts the content of a file of the system.
@@ -98,7 +98,7 @@ fn get<H: Net<Stream = TcpStream>>(
     file: &str,
 ) -> Result<Outcome, Hindrance> {
     let target = Target::open(rt, file)?;
-    let answer = answer(rt, session, &Command::Cat(path));
+    let answer = answer(rt, server, session, &Command::Cat(path));
     Ok(answered(server, into_target(rt, target, answer)?))
 }
 
@@ -167,10 +167,13 @@ fn with_found<H: Net<Stream = TcpStream>>(
     }
 }
 
-/// Whether what came of a line tells that nothing can be sent any more over the connection that it went over.
+/// Whether what came of a line tells that nothing may be sent any more over the connection that it went over: that it was
+/// cut, or that memory ran out, perhaps before a reply was read.
 fn is_cut(outcome: &Outcome) -> bool {
     match outcome {
-        Outcome::Answer(answer, beside) => tells_cut(answer) || beside.reach.lacks_memory(),
+        Outcome::Answer(Answer::Refused(refusal), _) => {
+            matches!(refusal, Refusal::Cut | Refusal::Memory)
+        }
         _ => false,
     }
 }

@@ -168,6 +168,11 @@ impl<H: Net<Stream = TcpStream>> Getting<'_, '_, '_, H> {
         }
         Ok(())
     }
+
+    /// What was written.
+    fn into_tally(self) -> Tally {
+        self.tally
+    }
 }
 
 /// Writes all that stands below a directory into a folder of this system, which is made where there is none. All of it is
@@ -191,7 +196,5 @@ pub(crate) fn get_tree<H: Net<Stream = TcpStream>>(
     };
     let gone = getting.go(&rows, path, folder);
     let_go(rows);
-    let tally = getting.tally;
-    let_go(getting);
-    tally.answer(rt, folder, gone)
+    getting.into_tally().answer(rt, folder, gone)
 }

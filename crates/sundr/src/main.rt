@@ -7,6 +7,7 @@ mod batch;
 mod config;
 mod defaults;
 mod folder;
+mod foreseeing;
 mod found;
 mod getting;
 mod hindrance;
@@ -39,6 +40,7 @@ use folder::{
     Keys, Seed, check_folder, check_ledger, check_user, keep_blocks, keep_leaves, last_signed,
     lock_ledgers, read_blocks, read_content, read_kept, read_keys, read_seeds,
 };
+use foreseeing::{Foreseeing, places_in};
 use found::{Found, found_beside};
 use getting::get_tree;
 use hindrance::{FileFault, FolderFile, Hindrance};
@@ -83,8 +85,11 @@ pub(crate) type OwnKeys<D> = KeysOf<D, Global>;
 /// A client over the files of a folder.
 type OwnClient = Client<FileDevice<Global>, FileDevice<Global>, Global>;
 
-/// What carries its requests to the server at an address, unless they ask for blocks that are kept.
-type OwnTransport<'a, H> = Keeping<Connecting<Server<'a, H>, Stream<'a>, Global>, Global>;
+/// What carries its requests to the server at an address, unless they ask for blocks that are kept, and foresees some.
+type OwnTransport<'a, H> = Foreseeing<
+    'a,
+    Keeping<Connecting<Server<'a, H>, Stream<'a>, Global>, Global>,
+>;
 
 /// Its session with the server at an address.
 type OwnSession<'a, H> = Session<
@@ -289,8 +294,10 @@ fn session_of<'a, H: Net<Stream = TcpStream>>(
     client: OwnClient,
     kept: KeptBlocks<Global>,
 ) -> OwnSession<'a, H> {
+    let contact = server.contact();
     let connecting = Connecting::new(rt.alloc(), server);
-    Session::new(rt.alloc(), client, Keeping::new(connecting, kept))
+    let transport = Foreseeing::new(rt.alloc(), Keeping::new(connecting, kept), contact);
+    Session::new(rt.alloc(), client, transport)
 }
 
 /// Parts a session: its client, and the blocks that it has.
@@ -298,13 +305,13 @@ fn parted<H: Net<Stream = TcpStream>>(
     session: OwnSession<'_, H>,
 ) -> (OwnClient, KeptBlocks<Global>) {
     let (client, transport) = session.close();
-    let (connecting, kept) = transport.into_parts();
+    let (connecting, kept) = transport.into_transport().into_parts();
     let_go(connecting);
     (client, kept)
 }
 
 /// Whether an answer tells that nothing can be sent any more over the connection that its command went over.
-pub(crate) fn tells_cut(answer: &Answer<Global>) -> bool {
+fn tells_cut(answer: &Answer<Global>) -> bool {
     match answer {
         Answer::Refused(refusal) => matches!(refusal, Refusal::Cut),
         _ => false,
@@ -352,14 +359,51 @@ fn beside_resumed<H: Net<Stream = TcpStream>>(
     answer
 }
 
-/// Carries a command out, and tells which operation was finished before it.
-fn answer<H: Net<Stream = TcpStream>>(
+/// Carries a command out in a look of its own, and tells which operation was finished before it.
+fn run_alone<H: Net<Stream = TcpStream>>(
     rt: &HostRuntime,
     session: &mut OwnSession<'_, H>,
     command: &Command<'_>,
 ) -> Answer<Global> {
     let answer = session.run(command);
     beside_resumed(rt, session, answer)
+}
+
+/// What a directory's entries come to with what stands at each, in the view in which they were shown without that. So it
+/// is known about which places it is asked next; where memory for that is lacking, it isn't.
+pub(crate) fn detailed<H: Net<Stream = TcpStream>>(
+    rt: &HostRuntime,
+    server: &Server<'_, H>,
+    session: &mut OwnSession<'_, H>,
+    path: &str,
+    listed: Answer<Global>,
+) -> Answer<Global> {
+    match listed {
+        Answer::Listing(entries) => {
+            if let Ok(places) = places_in(rt.alloc(), &entries) {
+                server.foresee(places);
+            }
+            let_go(entries);
+            session.tell(&Command::Details(path))
+        }
+        other => other,
+    }
+}
+
+/// Carries a command out, and tells which operation was finished before it.
+fn answer<H: Net<Stream = TcpStream>>(
+    rt: &HostRuntime,
+    server: &Server<'_, H>,
+    session: &mut OwnSession<'_, H>,
+    command: &Command<'_>,
+) -> Answer<Global> {
+    match command {
+        Command::Details(path) => {
+            let listed = run_alone(rt, session, &Command::Ls(path));
+            detailed(rt, server, session, path, listed)
+        }
+        _ => run_alone(rt, session, command),
+    }
 }
 
 /// Gives what a name stands for another name in its place, and tells which operation was finished before.
@@ -382,7 +426,7 @@ pub(crate) fn do_work<H: Net<Stream = TcpStream>>(
     work: Work<'_>,
 ) -> Result<Told, Hindrance> {
     match work {
-        Work::Run(command) => Ok(Told::Answer(answer(rt, session, command))),
+        Work::Run(command) => Ok(Told::Answer(answer(rt, server, session, command))),
         Work::Move { path, to } => Ok(Told::Answer(renamed(rt, session, path, to))),
         Work::PutTree { path, dir } => {
             let context = Context::new(rt, line.dir, server, session)?;

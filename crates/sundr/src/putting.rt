@@ -341,6 +341,11 @@ impl<H: Net<Stream = TcpStream>> Putting<'_, '_, '_, H> {
         }
         Ok(())
     }
+
+    /// What was written.
+    fn into_tally(self) -> Tally {
+        self.tally
+    }
 }
 
 /// The first folder, of those whose files are to be written.
@@ -371,7 +376,5 @@ pub(crate) fn put_tree<H: Net<Stream = TcpStream>>(
         tally: Tally::new(),
     };
     let gone = putting.go();
-    let tally = putting.tally;
-    let_go(putting);
-    tally.answer(rt, path, gone)
+    putting.into_tally().answer(rt, path, gone)
 }

@@ -5,6 +5,7 @@ ghost use Rattle.leaf_ledger.specs.Device.{HasRisen};
 
 use crate::pace::{Pace, silence};
 use connection::{Connection, ConnectionFault, read_some};
+use directory::Target as Place;
 use std::cell::Cell;
 use std::io::{self, ErrorKind, Write};
 use std::net::{Net, SocketAddr, TcpStream, ToSocketAddrs};
@@ -128,12 +129,14 @@ impl Reach {
     }
 }
 
-/// What is known of the server while it is asked: what came of the latest try to reach it, and which time the command
-/// has.
+/// What is known of the server while it is asked: what came of the latest try to reach it, which time the command has, and
+/// about which places it is asked next.
 #[derive(Drop)]
 pub(crate) struct Contact<'a> {
     reach: Cell<Reach>,
     pace: Pace<'a>,
+    /// Where that is known, and wasn't made use of yet.
+    next: Cell<Option<Vec<Place>>>,
 }
 
 impl<'a> Contact<'a> {
@@ -142,6 +145,7 @@ impl<'a> Contact<'a> {
         Contact {
             reach: Cell::new(Reach::Untried),
             pace: Pace::new(rt),
+            next: Cell::new(None),
         }
     }
 
@@ -153,6 +157,11 @@ impl<'a> Contact<'a> {
     /// Another command begins now.
     pub(crate) fn begin(&self) {
         self.pace.begin();
+    }
+
+    /// The places about which it is asked next, where that was told and not yet made use of.
+    pub(crate) fn next_places(&self) -> Option<Vec<Place>> {
+        self.next.replace(None)
     }
 }
 
@@ -328,6 +337,16 @@ impl<'a, H> Server<'a, H> {
     /// Another command of it begins now.
     pub(crate) fn begin(&self) {
         self.contact.begin();
+    }
+
+    /// What is known of it while it is asked.
+    pub(crate) fn contact(&self) -> &'a Contact<'a> {
+        self.contact
+    }
+
+    /// About these places it is asked next, in this order.
+    pub(crate) fn foresee(&self, places: Vec<Place>) {
+        self.contact.next.set(Some(places));
     }
 }
 

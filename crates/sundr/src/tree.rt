@@ -3,7 +3,7 @@
 use crate::hindrance::{FileFault, Hindrance};
 use crate::init::no_folder;
 use crate::reaching::Server;
-use crate::{OwnSession, answer};
+use crate::{OwnSession, answer, detailed};
 use commands::{Answer, Command, Refusal};
 use directory::Target as Place;
 use std::alloc::{AllocError, AllocFailed, Global};
@@ -198,7 +198,7 @@ pub(crate) fn run<H: Net<Stream = TcpStream>>(
     command: &Command<'_>,
 ) -> Answer<Global> {
     server.begin();
-    answer(rt, session, command)
+    answer(rt, server, session, command)
 }
 
 /// With what a folder is put or got: a session with the server, of the user whose folder this is.
@@ -242,6 +242,12 @@ impl<'a, 's, 'c, H: Net<Stream = TcpStream>> Context<'a, 's, 'c, H> {
     /// Tells what a command shows in the view of the last look.
     pub(crate) fn show(&mut self, command: &Command<'_>) -> Answer<Global> {
         self.server.begin();
-        self.session.tell(command)
+        match command {
+            Command::Details(path) => {
+                let listed = self.session.tell(&Command::Ls(path));
+                detailed(self.rt, self.server, self.session, path, listed)
+            }
+            _ => self.session.tell(command),
+        }
     }
 }
