@@ -507,6 +507,7 @@ module _ (same_kept : (p : Key) (h : List Call) → kept p (reverse (log_of p h)
         left = l.left;
         is_run = l.is_run;
         clients = l.clients;
+        told = l.took;
         log = l.log;
         one_line = λ are p. each_honest_run keys l.left l.is_run are (same_premises keys l.left (told_steps run) l.clients l.put p);
       }

@@ -13,7 +13,7 @@ use Rattle.client_runs.specs.Runs.{Keys, client_of, owner, pinned}
 use Rattle.consistency_server.specs.declared.call.CallKind.TheVariants.{Update}
 use Rattle.consistency_server.specs.Answers.{Call}
 use Rattle.consistency_server.specs.History.{log_of, update_of}
-use Rattle.honest_runs.specs.HonestRuns.{Exchange, HonestEvent, IsAnswered, IsHandedIn, IsHonestRun, carried_out, client_before, events, history, put_with, sent_by, stored}
+use Rattle.honest_runs.specs.HonestRuns.{Exchange, HonestEvent, IsAnswered, IsHandedIn, IsHonestRun, TookPlace, carried_out, client_before, events, history, put_with, sent_by, stored}
 use Rattle.honest_line.specs.OneLine.{AreOnOneLine, AreSigningKeys, HonestPremises}
 
 -- a step of the clients, of the store and of the server
@@ -112,12 +112,13 @@ IsKeptRun keys (s ∷ older) = IsKeptStep keys older s × IsKeptRun keys older
 
 -- ---- what holds of each
 
--- Without what was lost it is an honest run with a server that never ended: the clients do the same, and the log is the
--- same. So all stand in one line where they do in honest runs.
+-- Without what was lost it is an honest run with a server that never ended: the clients do the same, each answer that went
+-- out goes out, and the log is the same. So all stand in one line where they do in honest runs.
 pub record IsHonestWithoutLost (keys : Keys) (run : List KeptStep) : Type 0 where
   pub left : List HonestEvent
   pub is_run : IsHonestRun keys left
   pub clients : events left ≡ events (told_steps run)
+  pub told : (x : Exchange) → TookPlace (told_steps run) x → TookPlace left x
   pub log : log_of (pinned keys) (history left) ≡ log_after (pinned keys) run
   pub one_line : AreSigningKeys keys → HonestPremises keys (told_steps run) → AreOnOneLine keys left
 
