@@ -1,16 +1,16 @@
 -- What an append makes of a log that keeps events.
-use Rattle.std.proofs.Common.{◌≡◌, true, false, true≢false, List, [], ◌++◌, refl, sym, ap, ◌∙◌, subst, append_assoc, IsErrOf, Err}
+use Rattle.std.proofs.Common.{◌≡◌, true, false, true≢false, List, [], ◌∷◌, ◌++◌, refl, sym, ap, ◌∙◌, subst, append_assoc, IsErrOf, Err}
 use Rattle.std.specs.Prelude.{map}
 use Rattle.std.proofs.lemmas.List.{append-nil, map-append}
-use Rattle.leaf_ledger.specs.Device.{History}
+use Rattle.leaf_ledger.specs.Device.{History, started}
 use Rattle.consistency_server.specs.Answers.{Call}
 use Rattle.server_log.specs.KeptLog.{record_of}
 use Rattle.record_log.specs.Records.{Record, LogFile, Tells}
 use Rattle.record_log.specs.declared.error.LogError.{LogError}
 use Rattle.record_log.specs.declared.error.LogError.TheVariants as error
 use Rattle.record_log.specs.Life as life
-use Rattle.record_log.specs.Life.{Addition, IsPossible}
-use Rattle.kept_server.specs.Kept.{HasJust, HasSynced}
+use Rattle.record_log.specs.Life.{Addition, Called, IsLife, IsPossible, Event, end_of}
+use Rattle.kept_server.specs.Kept.{HasJust, HasSynced, IsCalled}
 
 -- before the first event
 pub opened : (start : History) → HasJust start [] start
@@ -49,3 +49,25 @@ pub unchanged : {T : Type 0} (start : History) (calls : List Call) (old new : Lo
 unchanged start calls old new error.Device same failed ours just usable = absurd (true≢false (sym usable ∙ failed refl))
 unchanged start calls old new error.Memory same failed ours just usable = subst (λ (l : LogFile). HasJust start calls l.file) (sym (same refl)) just
 unchanged start calls old new error.Damaged same failed ours just usable = absurd (ours refl)
+
+-- ---- what becomes of the file
+
+pub no_call : (h : History) → IsCalled h h
+no_call h = record { calls = []; life = tt; ends = refl }
+
+pub one_call : (adds : Addition) (old new : History) → life.Call adds old new → IsCalled old new
+one_call adds old new call = record { calls = Called adds new ∷ []; life = (call, tt); ends = refl }
+
+both_lives : (h : History) (some others : List Event) → IsLife h some → IsLife (end_of h some) others → IsLife h (some ++ others) × (end_of h (some ++ others) ≡ end_of (end_of h some) others)
+both_lives h [] others first then = (then, refl)
+both_lives h (Called adds new ∷ some) others first then = let rest = both_lives new some others first.1 then in ((first.0, rest.0), rest.1)
+both_lives h (life.Crashed adds new left ∷ some) others first then = let rest = both_lives (started left) some others first.2 then in ((first.0, first.1, rest.0), rest.1)
+
+pub calls_more : (a b c : History) → IsCalled a b → IsCalled b c → IsCalled a c
+calls_more a b c first then =
+    let all = both_lives a first.calls then.calls first.life (subst (λ (h : History). IsLife h then.calls) (sym first.ends) then.life) in
+    record {
+      calls = first.calls ++ then.calls;
+      life = all.0;
+      ends = all.1 ∙ ap (λ (h : History). end_of h then.calls) first.ends ∙ then.ends;
+    }

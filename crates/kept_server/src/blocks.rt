@@ -1,10 +1,10 @@
 //! The blocks under their lock.
 
-ghost use Rattle.std.specs.Prelude.{◌≡◌, ◌≤◌, ◌<◌, true, Ok, Err, length, IfOk, IfErr, IfSome, OnOk};
+ghost use Rattle.std.specs.Prelude.{◌≡◌, ◌⊎◌, ◌≤◌, ◌<◌, ◌+◌, true, Ok, Err, length, IfOk, IfErr, IfSome, IfNone, OnOk};
 ghost use Rattle.layout.specs.Hash.{hash};
 ghost use Rattle.layout.specs.Types.{Bytes};
 ghost use Rattle.wire.specs.declared.kinds.Status.TheVariants as status;
-ghost use Rattle.block_file.specs.Blocks.{Keeps, size_limit};
+ghost use Rattle.block_file.specs.Blocks.{Keeps, size_limit, size_of_head};
 ghost use Rattle.block_file.specs.Life.{Call, IsSafe};
 ghost use Rattle.server_workers.specs.Conversation.{RepliesToSync};
 
@@ -52,6 +52,9 @@ impl<T: Storage + Drop, A: Allocator + Copy> Blocks<T, A> {
         ensures digest { IfOk result (λ digest. (digest ≡ hash text.now) × (length text.now ≤ size_limit)) }
         ensures large { result ≡ Err BlockError.TooLarge → size_limit < length text.now }
         ensures kept { OnOk result (T.tells ≡ true → Keeps text.now self.new.file.now.text) }
+        ensures others { OnOk result (T.tells ≡ true
+            → (other : Bytes) → Keeps other self.old.file.now.text → Keeps other self.new.file.now.text) }
+        ensures full { result ≡ Err BlockError.Full → self.old.room < self.old.end + size_of_head + length text.now }
         ensures step { T.tells ≡ true → Call self.old.file self.new.file }
     {
         if !self.file.usable() {
@@ -65,6 +68,12 @@ impl<T: Storage + Drop, A: Allocator + Copy> Blocks<T, A> {
     pub fn fetch(&mut self, wanted: &Digest) -> Result<Option<Vec<u8, A>>, BlockError>
         ensures own { IfOk result (λ found. IfSome found (λ text. hash text.items ≡ wanted.now)) }
         ensures small { IfOk result (λ found. IfSome found (λ text. length text.items ≤ size_limit)) }
+        // It is kept, and None comes only where no text of the digest is.
+        ensures kept { IfOk result (λ found. IfSome found (λ text.
+            T.tells ≡ true → Keeps text.items self.old.file.now.text)) }
+        ensures absent { IfOk result (λ found. IfNone found (T.tells ≡ true
+            → (text : Bytes) → hash text ≡ wanted.now → Keeps text self.old.file.now.text → ⊥)) }
+        ensures ours { IfErr result (λ e. (e ≡ BlockError.Device) ⊎ (e ≡ BlockError.Memory)) }
         ensures same { self.new.file ≡ self.old.file }
     {
         if !self.file.usable() {

@@ -120,13 +120,6 @@ impl<B: ServerKey> Model for Beginning<B> {
 }
 
 impl<B: ServerKey> Beginning<B> {
-    /// How many events it has.
-    pub(crate) fn len(&self) -> u64
-        ensures { result ≡ length self.now }
-    {
-        self.size
-    }
-
     /// A copy.
     pub(crate) fn again(&self) -> Beginning<B>
         ensures { result ≡ self.now }

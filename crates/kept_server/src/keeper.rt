@@ -1,13 +1,14 @@
 //! The log, and what is in it.
 
-ghost use Rattle.std.specs.Prelude.{◌≡◌, List, [], ◌++◌, map, true, IfSome};
+ghost use Rattle.std.specs.Prelude.{◌≡◌, List, [], ◌++◌, map, true, false, IfSome};
 ghost use mathlib.Core.List.{IsPrefix};
 ghost use Rattle.consistency_server.specs.Answers.{Call as PureCall};
 ghost use Rattle.server_log.specs.KeptLog.{record_of};
-ghost use Rattle.kept_server.specs.Kept.{IsKept};
+ghost use Rattle.kept_server.specs.Kept.{IsCalled, IsKept};
 
 use crate::events::Beginning;
 use crate::key::ServerKey;
+use crate::ready::Ready;
 use crate::receipt::Receipt;
 use record_log::{LogError, Record, RecordLog};
 use std::alloc::Allocator;
@@ -63,19 +64,18 @@ impl<S: Storage + Drop, B: ServerKey> Keeper<S, B> {
 
     /// Appends the records of the events that come next, and syncs, after room was made for them where little is left.
     /// False where the storage fails, or memory runs out.
-    pub(crate) fn append<A: Allocator + Copy, C: Allocator>(
-        &mut self,
-        alloc: A,
-        records: &[Record<C>],
-        events: Beginning<B>,
-    ) -> bool
-        requires { (left : List PureCall) × (events ≡ self.old.events ++ left) × (records.now ≡ map record_of left) }
-        ensures { result ≡ true → self.new.events ≡ events }
+    pub(crate) fn append<A: Allocator + Copy>(&mut self, alloc: A, ready: Ready<A, B>) -> bool
+        requires { (left : List PureCall) × (ready.1 ≡ self.old.events ++ left) × (ready.0 ≡ map record_of left) }
+        ensures done { result ≡ true → self.new.events ≡ ready.1 }
+        ensures stays { result ≡ false → self.new.events ≡ self.old.events }
+        // All that becomes of the file are calls of the log, so that `what_was_told_stays` speaks of each moment.
+        ensures calls { S.tells ≡ true → IsCalled self.old.log.file self.new.log.file }
     {
+        let (records, events) = ready.into_parts();
         if !self.log.usable() || !self.make_room(alloc) {
             return false;
         }
-        self.add(alloc, records, events)
+        self.add(alloc, &records, events)
     }
 
     /// Makes room behind the records where little of what was made before is left. Where memory runs out for it there is
@@ -84,6 +84,7 @@ impl<S: Storage + Drop, B: ServerKey> Keeper<S, B> {
         requires { self.old.log.usable ≡ true }
         ensures events { self.new.events ≡ self.old.events }
         ensures usable { result ≡ true → self.new.log.usable ≡ true }
+        ensures calls { S.tells ≡ true → IsCalled self.old.log.file self.new.log.file }
     {
         let size = self.log.size();
         if self.ahead == 0 || size < self.next_room {
@@ -109,7 +110,9 @@ impl<S: Storage + Drop, B: ServerKey> Keeper<S, B> {
         requires usable { self.old.log.usable ≡ true }
         requires next { (left : List PureCall) × (events ≡ self.old.events ++ left)
             × (records.now ≡ map record_of left) }
-        ensures { result ≡ true → self.new.events ≡ events }
+        ensures done { result ≡ true → self.new.events ≡ events }
+        ensures stays { result ≡ false → self.new.events ≡ self.old.events }
+        ensures calls { S.tells ≡ true → IsCalled self.old.log.file self.new.log.file }
     {
         match self.log.append_all(alloc, records) {
             Ok(()) => {

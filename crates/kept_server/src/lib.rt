@@ -8,12 +8,11 @@
 //! Proved: each reply is one that a server may give that keeps what it has, whatever the storages do; and where the reply
 //! to SYNC is made, Ok tells that the blocks are synced (`Blocks::reply_to_sync`).
 //!
-//! Proved of calls, over a storage that tells its history: an answer is made with a receipt, and is one after a history
-//! of which each call that placed or committed, its own too, is among those that the receipt shows (`KeptServer::reply`).
-//! A receipt is made over a log that has what it shows, synced, in no other way (`Receipt::of`), and a log keeps what it
-//! has, also where its storage fails (`Keeper`). The log that is handed back in the end has a beginning of what the order
-//! leaves in it, in order, each call once (`serve_kept`). Not proved, and tried by `tools/kill_server` alone: that blocks
-//! are synced before the records that name them.
+//! Proved of calls, over a storage that tells its history: an answer is one after a history of which each call that placed
+//! or committed, its own too, is among those that the worker's receipt shows (`server_workers::converse`, at the receipts
+//! of `KeptServer`). A receipt is made over a log that has what it shows, synced, in no other way (`Receipt::of`), and a
+//! log keeps what it has, also where its storage fails (`Keeper`). Records are appended only once the blocks were synced (`Ready`). The log that is handed back in
+//! the end has a beginning of what the order leaves in it, in order, each call once (`serve_kept`).
 #![tactic(auto)]
 
 mod blocks;
@@ -21,6 +20,7 @@ mod events;
 mod keeper;
 mod key;
 mod order;
+mod ready;
 mod receipt;
 mod server;
 mod serving;

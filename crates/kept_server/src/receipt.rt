@@ -50,6 +50,20 @@ impl<S: Storage, B: ServerKey> Receipt<S, B> {
         }
     }
 
+    /// Shows what another one shows, too.
+    pub(crate) fn see(&mut self, other: Receipt<S, B>)
+        ensures own { IsPrefix self.old self.new }
+        ensures other { IsPrefix other self.new }
+    {
+        if other.events.more_than(&self.events).is_some() {
+            *self = other;
+            return;
+        }
+        let Some(_more) = self.events.more_than(&other.events) else {
+            unreachable!();
+        };
+    }
+
     /// Whether these events are among those that are synced.
     pub(crate) fn has(&self, events: &Beginning<B>) -> bool
         ensures { result ≡ true → IsPrefix events.now self.now }

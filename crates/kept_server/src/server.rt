@@ -1,15 +1,15 @@
 //! The server, and what it answers to a request.
 
-ghost use Rattle.std.specs.Prelude.{◌≡◌, ◌+◌, ◌<◌, List, [], true, false, IfSome, IfNone, IsSomeAnd};
+ghost use Rattle.std.specs.Prelude.{◌≡◌, ◌+◌, ◌++◌, ◌<◌, List, [], true, false, IfSome, IfNone};
 ghost use mathlib.Core.List.{IsPrefix};
 ghost use Rattle.wire.specs.Frame.{request_of};
 ghost use Rattle.consistency_server.specs.Answers.{Call as PureCall};
 ghost use Rattle.consistency_server.specs.History.{call_of, is_carried_out, log_of};
 ghost use Rattle.wire.specs.declared.kinds.Status.TheVariants as status;
 ghost use Rattle.server_workers.specs.Counting.{count_of};
-ghost use Rattle.server_workers.specs.Conversation.{RepliesToCall, RepliesToPut, RepliesToGet, RepliesToSync};
+ghost use Rattle.server_workers.specs.Conversation.{RepliesToKeptCall, RepliesToPut, RepliesToGetOf, RepliesToSync};
 ghost use Rattle.server_workers.specs.Conversation.{RepliesToBody, count_in, on_storage};
-ghost use Rattle.kept_server.specs.Kept.{KeepsOrder, ToldBody, ToldCall};
+ghost use Rattle.kept_server.specs.Kept.{KeepsOrder};
 ghost use Rattle.kept_server.specs.declared.state.Next.TheVariants as next;
 
 use crate::blocks::Blocks;
@@ -17,9 +17,9 @@ use crate::events::{Beginning, Opened};
 use crate::keeper::Keeper;
 use crate::key::ServerKey;
 use crate::order::Order;
+use crate::ready::Ready;
 use crate::receipt::Receipt;
 use crate::state::{Next, State};
-use crate::waiting::Taken;
 use block_file::{BlockError, BlockFile};
 use consistency_server::{Answer, Call, CallKind, Ordered, Signer, Verification, signer_of};
 use layout::{Digest, let_go};
@@ -76,25 +76,6 @@ fn handed_back<S: Storage + Drop, A: Allocator + Copy, B: ServerKey>(
 {
     let keeper = keeper?;
     keeper.into_log(order.events())
-}
-
-/// A reply; and where it is the answer to a call that was carried out, what shows that all it tells of is synced.
-#[derive(Drop)]
-struct Told<'r, S: Storage, A: Allocator, B: ServerKey> {
-    reply: ReplyBody<'r, A>,
-    receipt: Option<Receipt<S, B>>,
-}
-
-impl<'r, S: Storage, A: Allocator, B: ServerKey> Told<'r, S, A, B> {
-    /// A reply that tells of no call.
-    fn of_none(reply: ReplyBody<'r, A>) -> Told<'r, S, A, B>
-        ensures { result.reply ≡ reply.entry }
-    {
-        Told {
-            reply,
-            receipt: None,
-        }
-    }
 }
 
 impl<S: Storage + Drop, T: Storage + Drop, A: Allocator + Copy, B: ServerKey, L: Ledger> KeptServer<
@@ -158,51 +139,61 @@ impl<S: Storage + Drop, T: Storage + Drop, A: Allocator + Copy, B: ServerKey, L:
         }
     }
 
-    /// The reply to the body of a request's frame. None where the server has stopped, or memory ran out for a block.
+    /// The reply to the body of a request's frame, which tells of calls alone that are synced by this receipt. None where
+    /// the server has stopped.
+    #[tactic(auto, using(crate::proofs::Answered::no_more))]
     fn reply<G: Gate, R: Wait>(
         &self,
         rt: &R,
         gate: &G,
         tally: &mut Tally<L>,
         seen: &mut Option<SeenKey>,
+        receipt: &mut Receipt<S, B>,
         body: &[u8],
-    ) -> Option<Told<'_, S, A, B>>
+    ) -> Option<ReplyBody<'_, A>>
         requires { 0 < tally.old.share.parts }
-        ensures replies { IfSome result (λ t. RepliesToBody (on_storage B.pinned) (request_of body.now) t.reply) }
-        // It tells of synced calls alone.
-        ensures told { IfSome result (λ t. ToldBody B.pinned B.told (request_of body.now) t.reply t.receipt) }
-        ensures counted { IfSome result (λ t.
-            tally.new.answered ≡ tally.old.answered + count_in (request_of body.now) t.reply.status) }
+        ensures replies { IfSome result (λ reply.
+            RepliesToBody (on_storage B.pinned (B.told ++ receipt.new)) (request_of body.now) reply) }
+        ensures more { IsPrefix receipt.old receipt.new }
+        ensures counted { IfSome result (λ reply.
+            tally.new.answered ≡ tally.old.answered + count_in (request_of body.now) reply.status) }
         ensures stopped { IfNone result (tally.new.answered ≡ tally.old.answered) }
         ensures parts { tally.new.share.parts ≡ tally.old.share.parts }
     {
         let Some((kind, payload)) = request_of(body) else {
-            return Some(Told::of_none(ReplyBody::bare(self.alloc, Status::Form)));
+            return Some(ReplyBody::bare(self.alloc, Status::Form));
         };
         match kind {
-            RequestKind::Update => self.call(rt, gate, tally, seen, CallKind::Update, payload),
-            RequestKind::Commit => self.call(rt, gate, tally, seen, CallKind::Commit, payload),
-            RequestKind::Put => Some(Told::of_none(self.put(rt, gate, payload)?)),
-            RequestKind::Get => Some(Told::of_none(self.get(rt, gate, payload)?)),
-            RequestKind::Sync => Some(Told::of_none(self.sync(rt, gate, payload)?)),
+            RequestKind::Update => {
+                self.call(rt, gate, tally, seen, receipt, CallKind::Update, payload)
+            }
+            RequestKind::Commit => {
+                self.call(rt, gate, tally, seen, receipt, CallKind::Commit, payload)
+            }
+            RequestKind::Put => self.put(rt, gate, payload),
+            RequestKind::Get => self.get(rt, gate, payload),
+            RequestKind::Sync => self.sync(rt, gate, payload),
         }
     }
 
-    /// Carries out a call under the lock of the order, and answers once all calls up to it are in the log, synced.
-    /// Before, its signature is verified, and its text copied.
+    /// Carries out a call under the lock of the order, and answers once all calls up to it are in the log, synced, which
+    /// the receipt shows then. Before, its signature is verified, and its text copied.
+    #[tactic(auto, using(crate::proofs::Answered::no_more))]
     fn call<G: Gate, R: Wait>(
         &self,
         rt: &R,
         gate: &G,
         tally: &mut Tally<L>,
         seen: &mut Option<SeenKey>,
+        receipt: &mut Receipt<S, B>,
         kind: CallKind,
         text: &[u8],
-    ) -> Option<Told<'_, S, A, B>>
+    ) -> Option<ReplyBody<'_, A>>
         requires { 0 < tally.old.share.parts }
-        ensures replies { IfSome result (λ t. RepliesToCall B.pinned (call_of kind text.now) t.reply) }
-        ensures told { IfSome result (λ t. ToldCall B.pinned B.told (call_of kind text.now) t.reply t.receipt) }
-        ensures counted { IfSome result (λ t. tally.new.answered ≡ tally.old.answered + count_of t.reply.status) }
+        ensures replies { IfSome result (λ reply.
+            RepliesToKeptCall B.pinned (B.told ++ receipt.new) (call_of kind text.now) reply) }
+        ensures more { IsPrefix receipt.old receipt.new }
+        ensures counted { IfSome result (λ reply. tally.new.answered ≡ tally.old.answered + count_of reply.status) }
         ensures stopped { IfNone result (tally.new.answered ≡ tally.old.answered) }
         ensures parts { tally.new.share.parts ≡ tally.old.share.parts }
     {
@@ -227,48 +218,48 @@ impl<S: Storage + Drop, T: Storage + Drop, A: Allocator + Copy, B: ServerKey, L:
         let (answer, later, events) = self.order.lock(rt).call(call, known, user);
         self.coming.fetch_sub(1, Ordering::SeqCst);
         see(seen, later);
-        self.send(rt, gate, tally, answer, &events)
+        self.send(rt, gate, tally, receipt, answer, &events)
     }
 
     /// What is told of a call that has come and isn't placed, since memory runs out.
-    fn unplaced(&self) -> Told<'_, S, A, B>
-        ensures { result.reply ≡ record { status = status.Memory; payload = [] } }
+    fn unplaced(&self) -> ReplyBody<'_, A>
+        ensures { result ≡ record { status = status.Memory; payload = [] } }
     {
         self.coming.fetch_sub(1, Ordering::SeqCst);
-        Told::of_none(ReplyBody::bare(self.alloc, Status::Memory))
+        ReplyBody::bare(self.alloc, Status::Memory)
     }
 
     /// The answer to a call, once these events are in the log, synced. One that wasn't carried out, for want of
     /// memory, waits for nothing.
+    #[tactic(auto, using(crate::proofs::Answered::no_more))]
     fn send<G: Gate, R: Wait>(
         &self,
         rt: &R,
         gate: &G,
         tally: &mut Tally<L>,
+        receipt: &mut Receipt<S, B>,
         answer: Answer<A>,
         events: &Beginning<B>,
-    ) -> Option<Told<'_, S, A, B>>
+    ) -> Option<ReplyBody<'_, A>>
         requires { 0 < tally.old.share.parts }
-        ensures carried_out { IfSome result (λ t. is_carried_out answer.status ≡ true → t.reply ≡ answer) }
-        ensures synced { IfSome result (λ t. is_carried_out answer.status ≡ true
-            → IsSomeAnd t.receipt (λ synced. IsPrefix events.now synced)) }
-        ensures memory { IfSome result (λ t. is_carried_out answer.status ≡ false
-            → t.reply ≡ record { status = status.Memory; payload = [] }) }
-        ensures counted { IfSome result (λ t. tally.new.answered ≡ tally.old.answered + count_of t.reply.status) }
+        ensures carried_out { IfSome result (λ reply. is_carried_out answer.status ≡ true → reply ≡ answer) }
+        ensures synced { IfSome result (λ _. is_carried_out answer.status ≡ true → IsPrefix events.now receipt.new) }
+        ensures more { IsPrefix receipt.old receipt.new }
+        ensures memory { IfSome result (λ reply. is_carried_out answer.status ≡ false
+            → reply ≡ record { status = status.Memory; payload = [] }) }
+        ensures counted { IfSome result (λ reply. tally.new.answered ≡ tally.old.answered + count_of reply.status) }
         ensures stopped { IfNone result (tally.new.answered ≡ tally.old.answered) }
         ensures parts { tally.new.share.parts ≡ tally.old.share.parts }
     {
         if !is_carried_out(answer.status()) {
-            return Some(Told::of_none(ReplyBody::bare(self.alloc, Status::Memory)));
+            return Some(ReplyBody::bare(self.alloc, Status::Memory));
         }
-        let receipt = self.receipt(rt, gate, events)?;
+        let shown = self.receipt(rt, gate, events)?;
+        receipt.see(shown);
         if !self.state.lock(rt).count(tally) {
             return None;
         }
-        Some(Told {
-            reply: ReplyBody::of(answer),
-            receipt: Some(receipt),
-        })
+        Some(ReplyBody::of(answer))
     }
 
     /// Waits until these events are in the log, synced, and writes it where nobody else does. None where the server has
@@ -327,13 +318,14 @@ impl<S: Storage + Drop, T: Storage + Drop, A: Allocator + Copy, B: ServerKey, L:
     fn append<R: Wait>(&self, rt: &R, keeper: &mut Keeper<S, B>) -> bool {
         self.wait_for_coming();
         let taken = self.order.lock(rt).take(keeper.events());
-        let Some(Taken { records, events }) = taken else {
+        let Some(taken) = taken else {
             return false;
         };
-        if self.blocks.lock(rt).sync().is_err() {
-            return false;
+        let ready = Ready::over_synced(taken, &mut *self.blocks.lock(rt));
+        match ready {
+            Some(ready) => keeper.append(self.alloc, ready),
+            None => false,
         }
-        keeper.append(self.alloc, &records, events)
     }
 
     /// No request is replied to any more.
@@ -394,7 +386,7 @@ impl<S: Storage + Drop, T: Storage + Drop, A: Allocator + Copy, B: ServerKey, L:
 
     /// Finds the block of a digest, and hashes it.
     fn get<G: Gate, R: Wait>(&self, rt: &R, gate: &G, digest: &[u8]) -> Option<ReplyBody<'_, A>>
-        ensures { IfSome result (λ reply. RepliesToGet digest.now reply) }
+        ensures { IfSome result (λ reply. RepliesToGetOf true digest.now reply) }
     {
         let Ok(digest) = <[u8; 32]>::try_from(digest) else {
             return Some(ReplyBody::bare(self.alloc, Status::Form));
@@ -408,8 +400,7 @@ impl<S: Storage + Drop, T: Storage + Drop, A: Allocator + Copy, B: ServerKey, L:
                 self.stop(rt, gate);
                 None
             }
-            // What was asked for can't be told, and no reply says so.
-            Err(_) => None,
+            Err(_) => Some(ReplyBody::bare(self.alloc, Status::Memory)),
         }
     }
 
@@ -427,19 +418,26 @@ impl<S: Storage + Drop, T: Storage + Drop, A: Allocator + Copy, B: ServerKey, L:
 
 /// It keeps all on storage, and stops where that fails.
 impl<
-    S: Storage + Drop,
+    S: Storage + Drop + Send,
     T: Storage + Drop,
     A: Allocator + Copy,
-    B: ServerKey,
+    B: ServerKey + Send + Sync,
     L: Ledger,
     R: Wait,
 > Serves<A, L, R> for KeptServer<S, T, A, B, L> {
+    ghost use Rattle.std.specs.Prelude.{◌++◌};
     ghost use Rattle.server_workers.specs.Conversation.{on_storage};
 
-    ghost server = { on_storage B.pinned };
+    type Receipt = Receipt<S, B>;
+
+    ghost server = { λ receipt. on_storage B.pinned (B.told ++ receipt) };
 
     fn alloc(&self) -> A {
         self.alloc
+    }
+
+    fn first_receipt(&self, rt: &R) -> Receipt<S, B> {
+        self.state.lock(rt).receipt()
     }
 
     fn reply_to<G: Gate>(
@@ -448,10 +446,10 @@ impl<
         gate: &G,
         tally: &mut Tally<L>,
         seen: &mut Option<SeenKey>,
+        receipt: &mut Receipt<S, B>,
         body: &[u8],
     ) -> Option<ReplyBody<'_, A>> {
-        let Told { reply, receipt: _ } = self.reply(rt, gate, tally, seen, body)?;
-        Some(reply)
+        self.reply(rt, gate, tally, seen, receipt, body)
     }
 
     fn audit(&self, rt: &R, share: &mut Share<L>) {

@@ -46,6 +46,11 @@ impl<S: Storage + Drop, B: ServerKey, L: Ledger> State<S, B, L> {
         }
     }
 
+    /// What shows which events are in the log, synced.
+    pub(crate) fn receipt(&self) -> Receipt<S, B> {
+        self.synced.again()
+    }
+
     /// Someone writes the log, and it is too early to go on: some of these events aren't synced yet.
     pub(crate) fn is_writing(&self, events: &Beginning<B>) -> bool {
         !self.stopped && self.keeper.is_none() && !self.synced.has(events)

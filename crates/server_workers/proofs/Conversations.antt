@@ -1,17 +1,20 @@
 -- An exchange more, and how a conversation ends.
 use Rattle.std.proofs.Common.{arith, ◌≡◌, ◌≢◌, ◌⊎◌, ◌+◌, ℕ, zero, suc, List, [], ◌∷◌, ◌++◌, Option, Some, None, Result, Ok, Err, refl, sym, ap, ◌∙◌, append_assoc, subst, inl, inr}
-use Rattle.std.specs.Prelude.{map, OnOk, IfErr, OnErr, IfSome, IfNone}
+use Rattle.std.specs.Prelude.{map, OnOk, IfErr, OnErr, IfSome, IfNone, is_some}
 use Rattle.std.specs.List.{All}
 use Rattle.std.proofs.lemmas.List.{append-nil}
 use Rattle.std.proofs.lemmas.List.Elements.{All-append}
-use Rattle.layout.specs.Types.{Bytes}
+use Rattle.layout.specs.Types.{Bytes, Key}
 use Rattle.wire.specs.Frame.{frame, request_of, reply_body}
 use Rattle.wire.specs.Stream.{frames_of, IsFrameThen, BeginsFrame, BeginsAtFault}
-use Rattle.consistency_server.specs.Answers.{Answer}
+use Rattle.wire.specs.declared.kinds.RequestKind.{RequestKind}
+use Rattle.wire.specs.declared.kinds.RequestKind.TheVariants.{Update, Commit, Put, Get, Sync}
+use Rattle.consistency_server.specs.Answers.{Answer, Call}
+use Rattle.consistency_server.specs.History.{update_of, commit_of, log_of}
 use Rattle.server_workers.specs.declared.ended.Ended.{Ended}
 use Rattle.server_workers.specs.declared.ended.Ended.TheVariants as ended
 use Rattle.connection.specs.Told.{Told, goes_on}
-use Rattle.server_workers.specs.Conversation.{Server, Exchange, IsExchange, RepliesToBody, count_in, requests, replies, counted, EndsWith, Conversed}
+use Rattle.server_workers.specs.Conversation.{Server, MoreSynced, IsLater, Exchange, IsExchange, RepliesToCallOf, RepliesToGetOf, RepliesToSync, RepliesToBody, count_in, requests, replies, counted, EndsWith, Conversed}
 use Rattle.server_workers.specs.Conversing.{Standing, Conversing, Steps, GoesOn, WasReplied, HadStopped}
 
 -- ---- what a connection tells
@@ -86,7 +89,7 @@ pub replied : (server : Server) (told told' : Option Told) (answered answered' :
     → OnOk result (told' ≡ goes_on [] (frame.spell (reply_body reply.status reply.payload)) told)
     → IfErr result (λ _. (part after : Bytes) × (told' ≡ goes_on [] part told) × (frame.spell (reply_body reply.status reply.payload) ≡ part ++ after))
     → IfErr result (λ e. (e ≡ ended.Fault) ⊎ (e ≡ ended.Memory))
-    → GoesOn server (standing told answered waiting) result (standing told' answered' rest)
+    → GoesOn server server (standing told answered waiting) result (standing told' answered' rest)
 replied server told told' answered answered' waiting rest request reply (Ok x) next allowed counts wrote broke kind start so =
     let e : Exchange = record { request = request; reply = reply } in
     record {
@@ -116,7 +119,7 @@ replied server told told' answered answered' waiting rest request reply (Err bro
 -- or the server had stopped
 pub had_stopped : (server : Server) (told told' : Option Told) (answered answered' : ℕ) (waiting rest request : Bytes) {X : Type 0} (result : Result X Ended)
     → IsFrameThen request rest waiting → HadStopped server told told' answered answered' result
-    → GoesOn server (standing told answered waiting) result (standing told' answered' rest)
+    → GoesOn server server (standing told answered waiting) result (standing told' answered' rest)
 had_stopped server told told' answered answered' waiting rest request result next h start so =
     let ended_so : Conversed server start.told told' start.answered answered' ended.Stopped = record {
       exchanges = so.exchanges;
@@ -135,7 +138,7 @@ had_stopped server told told' answered answered' waiting rest request result nex
 pub replied_or_stopped : (server : Server) (told told' : Option Told) (answered answered' : ℕ) (waiting rest request : Bytes) {X : Type 0} (result : Result X Ended)
     → IsFrameThen request rest waiting
     → WasReplied server request told told' answered answered' result ⊎ HadStopped server told told' answered answered' result
-    → GoesOn server (standing told answered waiting) result (standing told' answered' rest)
+    → GoesOn server server (standing told answered waiting) result (standing told' answered' rest)
 replied_or_stopped server told told' answered answered' waiting rest request result next (inl r) =
     replied server told told' answered answered' waiting rest request r.reply result next r.allowed r.counts r.whole r.part r.broken
 replied_or_stopped server told told' answered answered' waiting rest request result next (inr h) =
@@ -160,7 +163,7 @@ pub reads : (server : Server) (told told' : Option Told) (answered : ℕ) (waiti
     → OnErr result ((piece : Bytes) × (told' ≡ goes_on piece [] told) × (result ≡ Err ended.End → piece ≡ []))
     → IfErr result (λ e. (e ≢ ended.Length) × (e ≢ ended.Stopped))
     → (¬ BeginsFrame waiting) × (¬ BeginsAtFault waiting)
-    → GoesOn server (standing told answered waiting) result (standing told' answered waiting')
+    → GoesOn server server (standing told answered waiting) result (standing told' answered waiting')
 reads server told told' answered waiting waiting' (Ok x) (piece, read, more) broke kind all start so = record {
   exchanges = so.exchanges;
   allowed = so.allowed;
@@ -188,9 +191,9 @@ pub reads_on : (server : Server) (told told' : Option Told) (answered : ℕ) (wa
     → OnErr result ((piece : Bytes) × (told' ≡ goes_on piece [] told) × (result ≡ Err ended.End → piece ≡ []))
     → IfErr result (λ e. (e ≢ ended.Length) × (e ≢ ended.Stopped))
     → (¬ BeginsFrame was) × (¬ BeginsAtFault was)
-    → GoesOn server (standing told answered was) result (standing told' answered waiting')
+    → GoesOn server server (standing told answered was) result (standing told' answered waiting')
 reads_on server told told' answered was waiting waiting' result same ok broke kind all =
-    subst (λ w. GoesOn server (standing told answered w) result (standing told' answered waiting')) same
+    subst (λ w. GoesOn server server (standing told answered w) result (standing told' answered waiting')) same
     (reads server told told' answered waiting waiting' result ok broke kind (subst (λ w. (¬ BeginsFrame w) × (¬ BeginsAtFault w)) (sym same) all))
 
 pub some_holds : {X : Type 0} (P : X → Type 0) (o : Option X) (x : X) → o ≡ Some x → IfSome o P → P x
@@ -200,7 +203,7 @@ pub none_holds : {X : Type 0} (P : Type 0) (o : Option X) → o ≡ None → IfN
 none_holds {X} P o is holds = subst (λ (o : Option X). IfNone o P) is holds
 
 -- it ends where it stands
-pub stops : (server : Server) (told : Option Told) (answered : ℕ) (waiting : Bytes) (e : Ended) (X : Type 0) → EndsWith e waiting [] → GoesOn server (standing told answered waiting) {X = X} (Err e) (standing told answered waiting)
+pub stops : (server : Server) (told : Option Told) (answered : ℕ) (waiting : Bytes) (e : Ended) (X : Type 0) → EndsWith e waiting [] → GoesOn server server (standing told answered waiting) {X = X} (Err e) (standing told answered waiting)
 stops server told answered waiting e X whole start so = record {
   exchanges = so.exchanges;
   left = waiting;
@@ -212,6 +215,75 @@ stops server told answered waiting e X whole start so = record {
   whole = whole;
   counts = so.counts;
 }
+
+-- ---- the same server, later
+
+no_later : (o : Option (List Call)) → MoreSynced o o
+no_later None = tt
+no_later (Some calls) = ([], append-nil calls)
+
+pub not_later : (server : Server) → IsLater server server
+not_later server = record { pinned = refl; synced = no_later server.synced }
+
+both_later : (a b c : Option (List Call)) → MoreSynced a b → MoreSynced b c → MoreSynced a c
+both_later None None None first then = tt
+both_later (Some x) (Some y) (Some z) first then = (first.0 ++ then.0, sym (append_assoc x first.0 then.0) ∙ ap (λ (l : List Call). l ++ then.0) first.1 ∙ then.1)
+both_later None None (Some z) first then = absurd then
+both_later None (Some y) c first then = absurd first
+both_later (Some x) None c first then = absurd first
+both_later (Some x) (Some y) None first then = absurd then
+
+pub later_twice : (a b c : Server) → IsLater a b → IsLater b c → IsLater a c
+later_twice a b c first then = record { pinned = then.pinned ∙ first.pinned; synced = both_later a.synced b.synced c.synced first.synced then.synced }
+
+-- what it might reply it may reply later
+call_later : (p : Key) (o n : Option (List Call)) → MoreSynced o n → (call : Call) (reply : Answer) → RepliesToCallOf (record { pinned = p; synced = o }) call reply → RepliesToCallOf (record { pinned = p; synced = n }) call reply
+call_later p None None more call reply r = r
+call_later p None (Some later) more call reply r = absurd more
+call_later p (Some calls) None more call reply r = absurd more
+call_later p (Some calls) (Some later) more call reply (inl memory) = inl memory
+call_later p (Some calls) (Some later) more call reply (inr t) = inr (record {
+  history = t.history;
+  answers = t.answers;
+  kept = (t.kept.0 ++ more.0, sym (append_assoc (log_of p (call ∷ t.history)) t.kept.0 more.0) ∙ ap (λ (l : List Call). l ++ more.0) t.kept.1 ∙ more.1);
+})
+
+sync_later : (o n : Option (List Call)) → MoreSynced o n → (payload : Bytes) (reply : Answer) → RepliesToSync (is_some o) payload reply → RepliesToSync (is_some n) payload reply
+sync_later None None more payload reply r = r
+sync_later (Some calls) (Some later) more payload reply r = r
+sync_later None (Some later) more payload reply r = absurd more
+sync_later (Some calls) None more payload reply r = absurd more
+
+get_later : (o n : Option (List Call)) → MoreSynced o n → (payload : Bytes) (reply : Answer) → RepliesToGetOf (is_some o) payload reply → RepliesToGetOf (is_some n) payload reply
+get_later None None more payload reply r = r
+get_later (Some calls) (Some later) more payload reply r = r
+get_later None (Some later) more payload reply r = absurd more
+get_later (Some calls) None more payload reply r = absurd more
+
+replies_later : (a : Server) (n : Option (List Call)) → MoreSynced a.synced n → (request : Option (RequestKind × Bytes)) (reply : Answer) → RepliesToBody a request reply → RepliesToBody (record { pinned = a.pinned; synced = n }) request reply
+replies_later a n more None reply r = r
+replies_later a n more (Some (Update, text)) reply r = call_later a.pinned a.synced n more (update_of text) reply r
+replies_later a n more (Some (Commit, text)) reply r = call_later a.pinned a.synced n more (commit_of text) reply r
+replies_later a n more (Some (Put, block)) reply r = r
+replies_later a n more (Some (Get, digest)) reply r = get_later a.synced n more digest reply r
+replies_later a n more (Some (Sync, payload)) reply r = sync_later a.synced n more payload reply r
+
+exchange_later : (a b : Server) → IsLater a b → (e : Exchange) → IsExchange a e → IsExchange b e
+exchange_later a b later e x = record {
+  fits = x.fits;
+  replies = subst (λ (p : Key). RepliesToBody (record { pinned = p; synced = b.synced }) (request_of e.request) e.reply) (sym later.pinned) (replies_later a b.synced later.synced (request_of e.request) e.reply x.replies);
+}
+
+pub conversing_later : (a b : Server) → IsLater a b → (start now : Standing) → Conversing a start now → Conversing b start now
+conversing_later a b later start now c = record {
+  exchanges = c.exchanges;
+  allowed = λ k d few. exchange_later a b later _ (c.allowed k d few);
+  told = c.told;
+  counts = c.counts;
+}
+
+pub goes_on_later : (a b : Server) → IsLater a b → (before : Standing) {X : Type 0} (result : Result X Ended) (now : Standing) → GoesOn b b before result now → GoesOn a b before result now
+goes_on_later a b later before result now goes start so = goes start (conversing_later a b later start before so)
 
 -- ---- what a step found
 

@@ -1,7 +1,8 @@
 -- Connections: the frames of requests are read, and the frames of their replies are written.
 use Rattle.std.specs.Prelude.{◌≡◌, ◌≢◌, ◌⊎◌, ◌≤◌, ◌<◌, ◌+◌, ℕ, Bool, true, false, List, [], ◌∷◌, ◌++◌, length, map}
-use Rattle.std.specs.Prelude.{Option, Some, None}
+use Rattle.std.specs.Prelude.{Option, Some, None, is_some, MatchOption}
 use Rattle.std.specs.List.{All}
+use mathlib.Core.List.{IsPrefix}
 use Rattle.block_store.specs.declared.store.TheConstants.{BLOCK_LIMIT}
 use Rattle.layout.specs.Hash.{hash}
 use Rattle.layout.specs.Types.{Bytes, Key}
@@ -13,26 +14,42 @@ use Rattle.wire.specs.declared.kinds.RequestKind.TheVariants.{Update, Commit, Pu
 use Rattle.wire.specs.Frame.{frame, request_of, reply_body}
 use Rattle.wire.specs.Stream.{frames_of, BeginsFrame, BeginsAtFault}
 use Rattle.consistency_server.specs.Answers.{Call, Answer}
-use Rattle.consistency_server.specs.History.{update_of, commit_of, answer_of}
+use Rattle.consistency_server.specs.History.{update_of, commit_of, answer_of, log_of}
 use Rattle.server_workers.specs.Counting.{count_of}
 use Rattle.server_workers.specs.declared.ended.Ended.{Ended}
 use Rattle.server_workers.specs.declared.ended.Ended.TheVariants.{End, Fault, Length, Memory, Stopped}
 
 -- ---- servers
 
--- A server as its clients know it: user 0's key, and whether it keeps what it has on storage. Such a one knows SYNC,
--- and stops where its storage fails.
+-- A server as its clients know it: user 0's key, and whether it keeps what it has on storage; then also calls that are in
+-- its log, synced. Such a one knows SYNC, and stops where its storage fails.
 pub record Server : Type 0 where
   pub pinned : Key
-  pub keeps : Bool
+  pub synced : Option (List Call)
 
 -- one that has all in memory
 abbrev pub in_memory : Key → Server
-in_memory pinned = record { pinned = pinned; keeps = false }
+in_memory pinned = record { pinned = pinned; synced = None }
 
--- one that keeps all on storage
-abbrev pub on_storage : Key → Server
-on_storage pinned = record { pinned = pinned; keeps = true }
+-- one that keeps all on storage, and has these calls in its log, synced
+abbrev pub on_storage : Key → List Call → Server
+on_storage pinned calls = record { pinned = pinned; synced = Some calls }
+
+-- it keeps what it has on storage
+abbrev pub keeps : Server → Bool
+keeps server = is_some server.synced
+
+-- calls that were synced are the first of those that are synced later
+abbrev pub MoreSynced : Option (List Call) → Option (List Call) → Type 0
+MoreSynced None None = Unit {0}
+MoreSynced (Some calls) (Some later) = IsPrefix calls later
+MoreSynced None (Some later) = ⊥
+MoreSynced (Some calls) None = ⊥
+
+-- the same server, later
+pub record IsLater (before now : Server) : Type 0 where
+  pub pinned : now.pinned ≡ before.pinned
+  pub synced : MoreSynced before.synced now.synced
 
 -- ---- replies
 
@@ -49,6 +66,23 @@ RepliesToCall pinned call reply =
     (reply ≡ bare status.Busy)
     ⊎ (reply ≡ bare status.Memory)
     ⊎ ((history : List Call) × (reply ≡ answer_of pinned history call))
+
+-- The answer to a call tells of these calls alone: it is one after a history, the newest call first, of which each call
+-- that placed or committed is among them, in order, and so is the call itself.
+pub record TellsSynced (pinned : Key) (synced : List Call) (call : Call) (reply : Answer) : Type 0 where
+  pub history : List Call
+  pub answers : reply ≡ answer_of pinned history call
+  pub kept : IsPrefix (log_of pinned (call ∷ history)) synced
+
+-- to a call, of a server with these calls in its log, synced: an answer that tells of them alone, or that memory ran out
+abbrev pub RepliesToKeptCall : Key → List Call → Call → Answer → Type 0
+RepliesToKeptCall pinned synced call reply = (reply ≡ bare status.Memory) ⊎ TellsSynced pinned synced call reply
+
+-- to a call, of either server
+abbrev pub RepliesToCallOf : Server → Call → Answer → Type 0
+RepliesToCallOf server call reply =
+    MatchOption server.synced (RepliesToCall server.pinned call reply)
+    (λ synced. RepliesToKeptCall server.pinned synced call reply)
 
 -- to a block to be stored: its digest, where it isn't too large
 abbrev pub RepliesToPut : Bytes → Answer → Type 0
@@ -69,6 +103,11 @@ RepliesToGet payload reply =
     ((length payload ≡ 32) × RepliesToDigest payload reply)
     ⊎ ((length payload ≢ 32) × (reply ≡ bare status.Form))
 
+-- of either server: one that keeps its blocks on storage may lack memory for a block
+abbrev pub RepliesToGetOf : Bool → Bytes → Answer → Type 0
+RepliesToGetOf true payload reply = RepliesToGet payload reply ⊎ ((length payload ≡ 32) × (reply ≡ bare status.Memory))
+RepliesToGetOf false payload reply = RepliesToGet payload reply
+
 -- to SYNC, with which nothing goes: that it is done, of a server that keeps its blocks; another doesn't know it
 abbrev pub RepliesToSync : Bool → Bytes → Answer → Type 0
 RepliesToSync true payload reply =
@@ -77,11 +116,11 @@ RepliesToSync true payload reply =
 RepliesToSync false payload reply = reply ≡ bare status.Form
 
 abbrev pub RepliesTo : Server → RequestKind → Bytes → Answer → Type 0
-RepliesTo server Update text reply = RepliesToCall server.pinned (update_of text) reply
-RepliesTo server Commit text reply = RepliesToCall server.pinned (commit_of text) reply
+RepliesTo server Update text reply = RepliesToCallOf server (update_of text) reply
+RepliesTo server Commit text reply = RepliesToCallOf server (commit_of text) reply
 RepliesTo server Put block reply = RepliesToPut block reply
-RepliesTo server Get digest reply = RepliesToGet digest reply
-RepliesTo server Sync payload reply = RepliesToSync server.keeps payload reply
+RepliesTo server Get digest reply = RepliesToGetOf (keeps server) digest reply
+RepliesTo server Sync payload reply = RepliesToSync (keeps server) payload reply
 
 -- to what may be a request
 abbrev pub RepliesToBody : Server → Option (RequestKind × Bytes) → Answer → Type 0
@@ -123,7 +162,7 @@ counted [] = 0
 counted (e ∷ es) = count_in (request_of e.request) e.reply.status + counted es
 
 -- All frames that were read were replied to, where it ended by itself: at the end of the stream, or at a length at
--- fault; all but one, where the server stopped.
+-- fault; and where the server stopped all before one that was read whole.
 abbrev pub EndsWith : Ended → Bytes → Bytes → Type 0
 EndsWith End left unwritten = (unwritten ≡ []) × (¬ BeginsFrame left) × (¬ BeginsAtFault left)
 EndsWith Length left unwritten = (unwritten ≡ []) × BeginsAtFault left

@@ -7,7 +7,7 @@ use Rattle.layout.specs.Types.{Bytes}
 use Rattle.connection.specs.Told.{Told, goes_on}
 use Rattle.wire.specs.Frame.{frame, reply_body, request_of}
 use Rattle.consistency_server.specs.Answers.{Answer}
-use Rattle.server_workers.specs.Conversation.{Server, Exchange, IsExchange, RepliesToBody, requests, replies, counted, count_in, Conversed}
+use Rattle.server_workers.specs.Conversation.{Server, keeps, Exchange, IsExchange, RepliesToBody, requests, replies, counted, count_in, Conversed}
 use Rattle.server_workers.specs.declared.ended.Ended.{Ended}
 use Rattle.server_workers.specs.declared.ended.Ended.TheVariants.{Fault, Memory, Stopped}
 
@@ -42,9 +42,10 @@ abbrev pub Steps : Server → Standing → {X : Type 0} → Result X Ended → S
 Steps server start (Ok x) now = Conversing server start now
 Steps server start (Err ended) now = Conversed server start.told now.told start.answered now.answered ended
 
--- from wherever the conversation began
-abbrev pub GoesOn : Server → Standing → {X : Type 0} → Result X Ended → Standing → Type 0
-GoesOn server before result now = (start : Standing) → Conversing server start before → Steps server start result now
+-- from wherever the conversation began, with a server that is known later as this one
+abbrev pub GoesOn : (earlier server : Server) → Standing → {X : Type 0} → Result X Ended → Standing → Type 0
+GoesOn earlier server before result now =
+    (start : Standing) → Conversing earlier start before → Steps server start result now
 
 -- ---- a request
 
@@ -62,7 +63,7 @@ pub record WasReplied {X : Type 0} (server : Server) (request : Bytes) (told tol
 pub record HadStopped {X : Type 0} (server : Server) (told told_now : Option Told) (answered answered_now : ℕ)
     (result : Result X Ended) : Type 0 where
   pub stopped : result ≡ Err Stopped
-  pub keeps : server.keeps ≡ true
+  pub keeps : keeps server ≡ true
   pub told_same : told_now ≡ told
   pub counts : answered_now ≡ answered
 

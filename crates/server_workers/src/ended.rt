@@ -11,6 +11,7 @@ pub enum Ended {
     Length,
     /// Memory ran out.
     Memory,
-    /// The server had stopped, since the storage failed in which it keeps what it has: the last request has no reply.
+    /// The server had stopped, since the storage failed in which it keeps what it has, or memory ran out for it: a
+    /// request has no reply, nor have those behind it.
     Stopped,
 }

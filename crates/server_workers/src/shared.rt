@@ -196,11 +196,15 @@ impl<'a, A: Allocator + Copy, B: ServerName, L: Ledger, R: Wait> Serves<A, L, R>
     for Shared<'a, A, B, L, R> {
     ghost use Rattle.server_workers.specs.Conversation.{in_memory};
 
-    ghost server = { in_memory B.pinned };
+    type Receipt = ();
+
+    ghost server = { λ _. in_memory B.pinned };
 
     fn alloc(&self) -> A {
         self.alloc
     }
+
+    fn first_receipt(&self, _rt: &R) {}
 
     fn reply_to<G: Gate>(
         &self,
@@ -208,6 +212,7 @@ impl<'a, A: Allocator + Copy, B: ServerName, L: Ledger, R: Wait> Serves<A, L, R>
         gate: &G,
         tally: &mut Tally<L>,
         seen: &mut Option<SeenKey>,
+        _receipt: &mut (),
         body: &[u8],
     ) -> Option<ReplyBody<'_, A>> {
         Some(self.reply(rt, gate, tally, seen, body))

@@ -5,7 +5,7 @@ ghost use Rattle.std.specs.Prelude.{length};
 ghost use Rattle.leaf_ledger.specs.Device.{HasRisen, HasCause};
 ghost use Rattle.server_workers.specs.declared.ended.Ended.TheVariants as ended;
 ghost use Rattle.connection.specs.Told.{goes_on};
-ghost use Rattle.server_workers.specs.Conversation.{Conversed};
+ghost use Rattle.server_workers.specs.Conversation.{Conversed, IsLater, keeps};
 ghost use Rattle.server_workers.specs.Conversing.{GoesOn, IsCaused, ToldPart, ToldWhole, WasReplied, HadStopped};
 
 use crate::ended::Ended;
@@ -121,25 +121,28 @@ fn reply_to<A: Allocator + Copy, G: Gate, C: Connection, L: Ledger, R: Wait, S: 
     gate: &G,
     tally: &mut Tally<L>,
     seen: &mut Option<SeenKey>,
+    receipt: &mut S::Receipt,
     body: &[u8],
 ) -> Result<(), Ended>
     requires { 0 < tally.old.share.parts }
-    ensures replied { WasReplied S.server body.now (C.told connection.old) (C.told connection.new)
+    ensures replied { WasReplied (S.server receipt.new) body.now (C.told connection.old) (C.told connection.new)
         tally.old.answered tally.new.answered result
-        ⊎ HadStopped S.server (C.told connection.old) (C.told connection.new)
+        ⊎ HadStopped (S.server receipt.new) (C.told connection.old) (C.told connection.new)
         tally.old.answered tally.new.answered result }
+    ensures later { IsLater (S.server receipt.old) (S.server receipt.new) }
     ensures end { result ≡ Err ended.End → ⊥ }
-    ensures stopped { result ≡ Err ended.Stopped → S.server.keeps ≡ true }
+    ensures stopped { result ≡ Err ended.Stopped → keeps (S.server receipt.new) ≡ true }
     ensures cause { IsCaused (C.fault_count connection.old) (C.fault_count connection.new) result }
     ensures parts { tally.new.share.parts ≡ tally.old.share.parts }
 {
-    match server.reply_to(rt, gate, tally, seen, body) {
+    match server.reply_to(rt, gate, tally, seen, receipt, body) {
         Some(reply) => answer(server.alloc(), connection, &reply),
         None => Err(Ended::Stopped),
     }
 }
 
 /// Replies to the next frame, or reads on where it isn't whole.
+#[tactic(auto, using(crate::proofs::Conversations::not_later))]
 fn step<A: Allocator + Copy, G: Gate, C: Connection, L: Ledger, R: Wait, S: Serves<A, L, R>>(
     rt: &R,
     connection: &mut C,
@@ -147,21 +150,23 @@ fn step<A: Allocator + Copy, G: Gate, C: Connection, L: Ledger, R: Wait, S: Serv
     gate: &G,
     tally: &mut Tally<L>,
     seen: &mut Option<SeenKey>,
+    receipt: &mut S::Receipt,
     frames: &mut Frames<A>,
     buffer: &mut [u8],
 ) -> Result<(), Ended>
     requires part { 0 < tally.old.share.parts }
     requires room { 0 < length buffer.old }
-    ensures goes_on { GoesOn S.server
+    ensures goes_on { GoesOn (S.server receipt.old) (S.server receipt.new)
         (record { told = C.told connection.old; answered = tally.old.answered; waiting = frames.old })
         result (record { told = C.told connection.new; answered = tally.new.answered; waiting = frames.new }) }
+    ensures later { IsLater (S.server receipt.old) (S.server receipt.new) }
     ensures end { result ≡ Err ended.End → C.is_at_end connection.new ≡ true }
-    ensures stopped { result ≡ Err ended.Stopped → S.server.keeps ≡ true }
+    ensures stopped { result ≡ Err ended.Stopped → keeps (S.server receipt.new) ≡ true }
     ensures cause { IsCaused (C.fault_count connection.old) (C.fault_count connection.new) result }
     ensures parts { tally.new.share.parts ≡ tally.old.share.parts }
 {
     match frames.next_frame() {
-        Ok(Some(request)) => reply_to(rt, connection, server, gate, tally, seen, &request),
+        Ok(Some(request)) => reply_to(rt, connection, server, gate, tally, seen, receipt, &request),
         Ok(None) => read_on(connection, frames, buffer),
         Err(FrameError::Length) => Err(Ended::Length),
         Err(FrameError::Memory) => Err(Ended::Memory),
@@ -169,6 +174,7 @@ fn step<A: Allocator + Copy, G: Gate, C: Connection, L: Ledger, R: Wait, S: Serv
 }
 
 /// Replies to the requests of a connection, up to its end or fault, or to a length at fault, or until the server stops.
+/// Of a server that keeps what it has each answer to a call tells of calls alone that the receipt shows to be synced.
 pub fn converse<
     A: Allocator + Copy,
     G: Gate,
@@ -176,14 +182,22 @@ pub fn converse<
     L: Ledger,
     R: Wait,
     S: Serves<A, L, R>,
->(rt: &R, connection: &mut C, server: &S, gate: &G, tally: &mut Tally<L>) -> Ended
+>(
+    rt: &R,
+    connection: &mut C,
+    server: &S,
+    gate: &G,
+    tally: &mut Tally<L>,
+    receipt: &mut S::Receipt,
+) -> Ended
     requires { 0 < tally.old.share.parts }
-    ensures conversed { Conversed S.server (C.told connection.old) (C.told connection.new) tally.old.answered
-        tally.new.answered result }
+    ensures conversed { Conversed (S.server receipt.new) (C.told connection.old) (C.told connection.new)
+        tally.old.answered tally.new.answered result }
+    ensures later { IsLater (S.server receipt.old) (S.server receipt.new) }
     // It was read to its end.
     ensures end { result ≡ ended.End → C.is_at_end connection.new ≡ true }
     // Only a server that keeps what it has stops.
-    ensures stopped { result ≡ ended.Stopped → S.server.keeps ≡ true }
+    ensures stopped { result ≡ ended.Stopped → keeps (S.server receipt.new) ≡ true }
     // It did fail.
     ensures fault { result ≡ ended.Fault → HasRisen (C.fault_count connection.old) (C.fault_count connection.new) }
     ensures parts { tally.new.share.parts ≡ tally.old.share.parts }
@@ -201,6 +215,7 @@ pub fn converse<
             gate,
             tally,
             &mut seen,
+            receipt,
             &mut frames,
             &mut buffer,
         );
@@ -221,6 +236,7 @@ pub(crate) fn work<
     S: Serves<A, L, R>,
 >(rt: &R, mut connection: C, server: &S, gate: &G, part: WorkerTally<L>) -> WorkerTally<L> {
     let mut tally = part.tally();
-    let _ended = converse(rt, &mut connection, server, gate, &mut tally);
+    let mut receipt = server.first_receipt(rt);
+    let _ended = converse(rt, &mut connection, server, gate, &mut tally, &mut receipt);
     WorkerTally::of(tally)
 }

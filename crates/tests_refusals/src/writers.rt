@@ -68,7 +68,7 @@ fn flush_to<B: ServerName, L: Ledger, W: Write + Drop, R: Host>(
     let mut flusher = Flusher::<'_, Global, B, R, W>::new(rt, queue, popping, writer);
     let mut replies = Vec::new(alloc);
     let mut connection = MemoryConnection::new(requests, 4096, &mut replies);
-    let ended = converse(rt, &mut connection, &shared, &OpenGate, &mut tally);
+    let ended = converse(rt, &mut connection, &shared, &OpenGate, &mut tally, &mut ());
     flusher.flush();
     flusher.flush();
     (ended, flusher.into_writer())

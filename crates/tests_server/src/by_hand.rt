@@ -50,10 +50,10 @@ fn converse_twice<G: Gate, C: Connection, W: Write + Drop, B: ServerName, L: Led
         rt, alloc, queue, pass, blank, store, pinned,
     );
     let mut flusher = Flusher::<'_, Global, B, R, W>::new(rt, queue, popping, writer);
-    let mut ended = converse(rt, connection, &shared, gate, &mut tally);
+    let mut ended = converse(rt, connection, &shared, gate, &mut tally, &mut ());
     flusher.flush();
     if ended == Ended::End {
-        ended = converse(rt, second, &shared, gate, &mut tally);
+        ended = converse(rt, second, &shared, gate, &mut tally, &mut ());
         flusher.flush();
     }
     (ended, tally.answered(), flusher.into_writer())

@@ -114,7 +114,7 @@ impl<'a, 'h, B: ServerName, L: Ledger, R: Wait> Desk<'a, 'h, B, L, R> {
         } = self;
         let mut output = Vec::new(*replies.allocator());
         let mut connection = MemoryConnection::new(frame, PIECE, &mut output);
-        let ended = converse(*rt, &mut connection, shared, &OpenGate, tally);
+        let ended = converse(*rt, &mut connection, shared, &OpenGate, tally, &mut ());
         let_go(connection);
         put_in(replies, output);
         ended

@@ -7,7 +7,7 @@ use Rattle.kept_server.proofs.serving.serve_in.Given.{Over}
 use Rattle.kept_server.proofs.serving.serve_in.Lts.{arg-2-4}
 use Rattle.kept_server.proofs.serving.serve_in.Goals as goal
 
-crosses : (g : Over) (κs : Lfts 9) → IsSend (param 4 g.row.S) → IsSend (param 5 g.row.T) → IsSend (copied 0 g.row.A) → IsSync (copied 0 g.row.A)
+crosses : (g : Over) (κs : Lfts 10) → IsSend (param 4 g.row.S) → IsSend (param 5 g.row.T) → IsSend (copied 0 g.row.A) → IsSync (copied 0 g.row.A)
     → Frees g.A.Allocator g.A.Allocator.dealloc_token → IsSend (param 6 g.row.B)
     → IsSync (param 4 (arg-2-4 g.row.A g.row.G g.row.C g.row.I g.row.S g.row.T g.row.B g.row.L g.row.R g.A.laws g.G.laws g.C.laws g.I.laws g.S.laws g.T.laws g.B.laws g.L.laws g.R.laws g.A.copy
     g.A.Allocator g.A.Allocator-dict g.A.Clone g.A.Clone-dict g.G.Gate g.G.Gate-dict g.C.Connection g.C.Connection-dict g.I.Iterator g.I.Iterator-dict g.S.Storage g.S.Storage-dict g.T.Storage

@@ -15,5 +15,6 @@ join-requires-after_bounds g c κs within = (
     search sendable depth 20,
     search sendable depth 20,
     search sendable depth 20,
+    search sendable depth 20,
   ),
 )

@@ -15,7 +15,7 @@ pub returns-clause-flushed : goal.returns-clause-flushed
 returns-clause-flushed g c = subst (λ (h : Hand). IsFlushed c.finish-writer.result.flushed g.B.ServerName.before (g.W.Write.contents c.finish-writer.result.writer) h.sent) c.close-ordered.ensures.log c.finish-writer.ensures
 
 -- The workers share what lies under the lock, the store, and the number of the last call.
-crosses : (g : Over) (κs : Lfts 14) → IsSend (copied 0 g.row.A) → IsSync (copied 0 g.row.A) → Frees g.A.Allocator g.A.Allocator.dealloc_token → IsSync (param 7 g.row.R)
+crosses : (g : Over) (κs : Lfts 15) → IsSend (copied 0 g.row.A) → IsSync (copied 0 g.row.A) → Frees g.A.Allocator g.A.Allocator.dealloc_token → IsSync (param 7 g.row.R)
     → IsSync (param 6 (arg-6-6 g.row.A g.row.G g.row.C g.row.I g.row.W g.row.B g.row.L g.row.R g.A.laws g.G.laws g.C.laws g.I.laws g.W.laws g.B.laws g.L.laws g.R.laws g.A.copy g.A.Allocator
     g.A.Allocator-dict g.A.Clone g.A.Clone-dict g.G.Gate g.G.Gate-dict g.C.Connection g.C.Connection-dict g.I.Iterator g.I.Iterator-dict g.W.Write g.W.Write-dict g.B.ServerName g.B.ServerName-dict
     g.L.Ledger g.L.Ledger-dict g.R.Threads g.R.Threads-dict g.R.Wait g.R.Wait-dict g.R.Clock g.R.Clock-dict g.C.Destruct-dict g.I.Destruct-dict g.W.Destruct-dict κs))

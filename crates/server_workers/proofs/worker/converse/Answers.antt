@@ -4,7 +4,7 @@ use Rattle.leaf_ledger.specs.Device.{HasRisen}
 use Rattle.server_workers.specs.declared.ended.Ended.{Ended}
 use Rattle.server_workers.specs.declared.ended.Ended.TheVariants as ended
 use Rattle.server_workers.specs.Conversing.{IsCaused}
-use Rattle.server_workers.proofs.Conversations.{starts, never_begun}
+use Rattle.server_workers.proofs.Conversations.{later_twice, never_begun, not_later, starts}
 use Rattle.server_workers.proofs.worker.converse.Goals as goal
 
 -- the count only grows
@@ -19,18 +19,25 @@ pub returns-in_default-clause-conversed : goal.returns-in_default-clause-convers
 returns-in_default-clause-conversed g c = never_begun _ _ _
 
 pub loop-init : goal.loop-init
-loop-init g c = (starts _ _ _ _ c.new-frames.ensures, refl, search rules, omega arith)
+loop-init g c = (starts _ _ _ _ c.new-frames.ensures, not_later _, refl, search rules, omega arith)
 
 pub loop-preserved : goal.loop-preserved
 loop-preserved g c = (
   c.in_default-stepped.ensures.goes_on _ c.loop.invariant.0,
-  c.step-stepped.ensures.parts ∙ c.loop.invariant.1,
-  c.loop.invariant.2,
-  later _ _ _ c.loop.invariant.3 c.step-stepped.ensures.cause.later,
+  later_twice _ _ _ c.loop.invariant.1 c.step-stepped.ensures.later,
+  c.step-stepped.ensures.parts ∙ c.loop.invariant.2,
+  c.loop.invariant.3,
+  later _ _ _ c.loop.invariant.4 c.step-stepped.ensures.cause.later,
 )
 
 pub returns-in-Err-clause-conversed : goal.returns-in-Err-clause-conversed
 returns-in-Err-clause-conversed g c = c.in-Err.ensures.goes_on _ c.loop.invariant.0
 
 pub returns-in-Err-clause-fault : goal.returns-in-Err-clause-fault
-returns-in-Err-clause-fault g c = rises c.in-Err.ended _ _ _ c.loop.invariant.3 c.in-Err.ensures.cause
+returns-in-Err-clause-fault g c = rises c.in-Err.ended _ _ _ c.loop.invariant.4 c.in-Err.ensures.cause
+
+pub returns-in_default-clause-later : goal.returns-in_default-clause-later
+returns-in_default-clause-later g c = not_later _
+
+pub returns-in-Err-clause-later : goal.returns-in-Err-clause-later
+returns-in-Err-clause-later g c = later_twice _ _ _ c.loop.invariant.1 c.in-Err.ensures.later

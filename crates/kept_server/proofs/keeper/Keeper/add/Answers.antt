@@ -1,7 +1,7 @@
 use Rattle.std.proofs.Common.{◌≡◌, ◌++◌, List, true, sym, ap, ◌∙◌, subst}
 use Rattle.consistency_server.specs.Answers.{Call}
-use Rattle.kept_server.specs.Kept.{HasJust, Keeping}
-use Rattle.kept_server.proofs.Appends.{appended, at_least, stays, unchanged}
+use Rattle.kept_server.specs.Kept.{HasJust, IsCalled, Keeping}
+use Rattle.kept_server.proofs.Appends.{appended, at_least, one_call, stays, unchanged}
 use Rattle.kept_server.proofs.keeper.Keeper.add.Goals as goal
 
 pub invariant_of-self : goal.invariant_of-self
@@ -25,3 +25,11 @@ invariant_of-self-in-Err-1 g c = λ tells.
     let e = c.in-Err.ensures in
     let just = (c.self.invariant tells).1 usable in
     (stays start c.self.inside.events _ old.file new.file just (e.step tells), unchanged start c.self.inside.events old new c.in-Err.field-0 e.memory (λ is. (e.device is).0) e.ours just)
+
+pub returns-in-Ok-clause-calls : goal.returns-in-Ok-clause-calls
+returns-in-Ok-clause-calls g c = λ tells.
+    subst (λ (k : Keeping). IsCalled k.log.file c.append_all.new.self.file) c.self.view_is (one_call _ _ _ (c.in-Ok.ensures.step tells))
+
+pub returns-in-Err-clause-calls : goal.returns-in-Err-clause-calls
+returns-in-Err-clause-calls g c = λ tells.
+    subst (λ (k : Keeping). IsCalled k.log.file c.append_all.new.self.file) c.self.view_is (one_call _ _ _ (c.in-Err.ensures.step tells))
