@@ -7,4 +7,5 @@ mod Ends
 mod Handed
 mod Pushes
 mod Sent
+mod Stays
 mod Syncs

@@ -1,3 +1,4 @@
 pub mod Events
 pub mod Kept
+pub mod Stays
 pub mod Synced

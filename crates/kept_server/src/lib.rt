@@ -11,7 +11,8 @@
 //! Proved of calls, over a storage that tells its history: an answer is one after a history of which each call that placed
 //! or committed, its own too, is among those that the worker's receipt shows (`server_workers::converse`, at the receipts
 //! of `KeptServer`). A receipt is made over a log that has what it shows, synced, in no other way (`Receipt::of`), and a
-//! log keeps what it has, also where its storage fails (`Keeper`). Records are appended only once the blocks were synced (`Ready`). The log that is handed back in
+//! log keeps what it has, also where its storage fails (`Keeper`); so what was told stays told, over crashes and starts
+//! (`what_was_told_stays`). Records are appended only once the blocks were synced (`Ready`). The log that is handed back in
 //! the end has a beginning of what the order leaves in it, in order, each call once (`serve_kept`).
 #![tactic(auto)]
 
@@ -19,6 +20,7 @@ mod blocks;
 mod events;
 mod keeper;
 mod key;
+mod laws;
 mod order;
 mod ready;
 mod receipt;
@@ -28,4 +30,5 @@ mod state;
 mod waiting;
 
 pub use blocks::Blocks;
+pub use laws::what_was_told_stays;
 pub use serving::{Kept, KeptServed, serve_kept};
