@@ -91,20 +91,20 @@ fn add_calls(rt: &impl Host, all: &mut Vec<Said>, calls: &[Asked]) {
     }
 }
 
-/// Puts these blocks after others, and a SYNC.
+/// Puts these blocks after others.
 fn add_blocks(rt: &impl Host, all: &mut Vec<Said>, blocks: &[(&[u8], [u8; 32])]) {
     for (block, digest) in blocks {
         all.push(put(rt, block, digest)).expect(rt, "memory");
     }
-    all.push(sync(rt)).expect(rt, "memory");
 }
 
-/// The calls of a line, with a block that is put and synced before the first two, two more before the others, and a GET
-/// of each at the end.
+/// The calls of a line, with a block that is put and synced before the first two, two more that are put before the
+/// others, and a GET of each at the end.
 pub(crate) fn among_blocks(rt: &impl Host, line: &Line) -> Vec<Said> {
     let (first, others) = line.calls.split_at_checked(2).expect(rt, "two calls");
     let mut all = Vec::new(rt.alloc());
     add_blocks(rt, &mut all, &[(b"abc", ABC)]);
+    all.push(sync(rt)).expect(rt, "memory");
     add_calls(rt, &mut all, first);
     add_blocks(rt, &mut all, &[(b"", NOTHING), (b"abd", ABD)]);
     add_calls(rt, &mut all, others);

@@ -212,7 +212,7 @@ fn what_is_replied_is_kept(rt: HostRuntime) {
     let said = among_blocks(&rt, &line);
     let devices = replies_to_all(&rt, new_devices(&rt), line.pinned, &said);
     has_files(&rt, &devices, &line);
-    let again = said.get(8..).unwrap_or(&[]);
+    let again = said.get(7..).unwrap_or(&[]);
     assert!(rt; again.len() == 5, "two calls and three blocks");
     let devices = replies_to_all(&rt, devices, line.pinned, again);
     has_files(&rt, &devices, &line);

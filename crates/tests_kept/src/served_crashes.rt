@@ -35,8 +35,8 @@ fn stopped<R: ThreadHost>(
     }
 }
 
-/// The first request that a client sends again after so many were replied to: blocks that no SYNC came after are put
-/// again.
+/// The first request that a client sends again after so many were replied to: blocks are put again after which neither
+/// SYNC nor a call was replied to.
 fn resumed(said: &[Said], replied: usize) -> usize {
     let before = said.get(..replied).unwrap_or(&[]);
     let puts = before.iter().rev().take_while(|it| it.is_put()).count();
@@ -64,7 +64,8 @@ fn count_kept(rt: &impl Host, devices: Devices, pinned: PublicKey) -> (usize, De
 }
 
 /// A server stops, and a crash leaves its devices in this way: it has the calls that were replied to, or one more, and
-/// replies to all others when it is started again. In how many ways a crash leaves them.
+/// replies to all others when it is started again. Of one more it has the blocks that were put before, too. In how many
+/// ways a crash leaves them.
 fn goes_on<R: ThreadHost>(
     rt: &R,
     line: &Line,
@@ -84,7 +85,12 @@ fn goes_on<R: ThreadHost>(
         found == told || found == told.saturating_add(1),
         "call {call}: {found}"
     );
-    let rest = said.get(resumed(said, replied)..).unwrap_or(&[]);
+    let first = if found > told {
+        replied
+    } else {
+        resumed(said, replied)
+    };
+    let rest = said.get(first..).unwrap_or(&[]);
     let _devices = replies_to_all(rt, devices, line.pinned, rest);
     of_log.max(of_blocks)
 }
@@ -119,7 +125,7 @@ fn each_call_of_the_log_fails(rt: HostRuntime) {
 }
 
 /// How many calls of the blocks' device a server makes: two of an opening, a write and a sync of a block, two writes and
-/// a sync of two more, and a read of each.
+/// a sync of two more, before the next call's record, and a read of each.
 const BLOCK_CALLS: u64 = 2 + 2 + 3 + 3;
 
 /// A block waits, and then two, each of which a crash leaves apart from the other.
