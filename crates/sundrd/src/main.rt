@@ -263,7 +263,7 @@ impl<'a, R: Eprint + Wait> Gate for Entrance<'a, R> {
     fn stopped(&self) {
         let rt = self.rt;
         let _ = eprintln!(rt;
-            "sundrd: the folder can't be written or read any more, and so the server ends"
+            "sundrd: the folder can't be written or read any more, or memory ran out for it: the server ends"
         );
         self.halt.tell(rt, FAILED);
     }
