@@ -462,14 +462,14 @@ pub(crate) fn check_user(rt: &HostRuntime, folder: &str, user: User) -> Result<(
     }
 }
 
-/// Whether there is a file of a folder that has bytes.
+/// Whether there is a file of a folder that has bytes, or something that is no file.
 pub(crate) fn has_bytes(
     rt: &HostRuntime,
     folder: &str,
     file: FolderFile,
 ) -> Result<bool, AllocError> {
     let path = path_of(rt.alloc(), folder, file)?;
-    Ok(fs::metadata(rt, &path).is_ok_and(|found| found.len() != 0))
+    Ok(fs::metadata(rt, &path).is_ok_and(|found| !found.is_file() || found.len() != 0))
 }
 
 /// Refuses a folder whose first ledger would be made beside a journal that has something in it: leaves that were used

@@ -87,6 +87,10 @@ const GONE: &str =
 const LOST: &str =
     "gone or empty, though the folder was used with it: a new one would sign again with what is used up; put it back, no older copy, or make a new folder";
 
+/// What is told of the first ledger where the folder has a user's number alone.
+const UNMARKED: &str =
+    "gone or empty, though the file user is there, which sundr init makes with it: a new one would sign again with what is used up; put it back, no older copy, or make a new folder";
+
 /// What is told of a journal.
 const FORGOTTEN: &str =
     "gone or empty, though the folder was used with it: with a new one another text would be signed in the place of one that was; put it back, no older copy, or make a new folder";
@@ -148,6 +152,8 @@ pub(crate) enum FileFault {
     Gone,
     /// It has nothing, but once had: the folder tells where it was.
     Lost,
+    /// It has nothing, but once had: the folder tells whose it is.
+    Unmarked,
     /// It has nothing, but once had what was signed: the folder tells where it was.
     Forgotten,
     /// It is gone, but the folder tells that there was a ledger beside it.
@@ -213,6 +219,7 @@ impl FileFault {
             FileFault::NoChange => NO_CHANGE,
             FileFault::Gone => GONE,
             FileFault::Lost => LOST,
+            FileFault::Unmarked => UNMARKED,
             FileFault::Forgotten => FORGOTTEN,
             FileFault::SeedGone => "gone, though the folder was used with it: put it back",
             FileFault::Seedless => SEEDLESS,

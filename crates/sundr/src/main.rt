@@ -51,7 +51,7 @@ use leaf_ledger::{Device, FileDevice};
 use lms_sign::{PrivateKey, PublicKey};
 use lost::tell_lost;
 use opening::open_device;
-use place::{Place, check_again, check_place, tell_place};
+use place::{Place, check_again, check_place, tell_new_ledgers, tell_place};
 use putting::put_tree;
 use reaching::{Contact, Reach, Server, Stream};
 use reason::{Reason, reason_of_answer, reason_of_hindrance, reason_of_unmade};
@@ -263,6 +263,7 @@ pub(crate) fn lock_and_open<H: Threads + Sync>(
     check_folder(rt, line, keys)?;
     let locks = lock_ledgers(rt, line.dir, line.user, keys)?;
     let place = check_place(rt, line.dir, &locks, line.moved)?;
+    tell_new_ledgers(rt, line.dir, &locks);
     begin_work(rt, line.dir, &locks)?;
     match open_and_tell(rt, host, line, keys, &place) {
         Ok(client) => Ok(Opened { client, locks }),

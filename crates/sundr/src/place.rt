@@ -33,6 +33,9 @@ const NEW_JOURNAL: u64 = 1;
 /// What is told where a folder that was used gets its first place.
 const LATE: &str = "is written: from now on a copy of the folder is refused";
 
+/// What is told where a ledger is made.
+const NEW_LEDGER: &str = "is made: if this seed signed before, anywhere, stop now";
+
 /// When a file was made, in nanoseconds since 1970; 0 where its file system doesn't tell.
 fn made_at(found: &Metadata) -> u128 {
     let Ok(made) = found.created() else {
@@ -156,9 +159,18 @@ fn check_ledgers(rt: &HostRuntime, folder: &str, count: u8, used: usize) -> Resu
     Ok(())
 }
 
+/// Refuses a folder without its first ledger that has a user's number: both are made by `init`, before the seed.
+fn check_made(rt: &HostRuntime, folder: &str) -> Result<(), Hindrance> {
+    let path = path_of(rt.alloc(), folder, FolderFile::User)?;
+    if fs::symlink_metadata(rt, &path).is_err() {
+        return Ok(());
+    }
+    check_used(rt, folder, FolderFile::Ledger(0), FileFault::Unmarked)
+}
+
 /// Refuses a folder that hasn't each ledger and the journal with which it was used. Where it tells of no place, but its
-/// journal has something, it may have been used with any ledger. Its place is looked at first, since another process makes
-/// these files before it tells of them.
+/// journal has something, it may have been used with any ledger, and where that has nothing with the first one, if `init`
+/// made it. Its place is looked at first, since another process makes these files before it tells of them.
 pub(crate) fn check_files(
     rt: &HostRuntime,
     folder: &str,
@@ -172,7 +184,7 @@ pub(crate) fn check_files(
     } else if has_bytes(rt, folder, FolderFile::Journal)? {
         check_ledgers(rt, folder, count, usize::from(MOST_KEYS))
     } else {
-        Ok(())
+        check_made(rt, folder)
     }
 }
 
@@ -332,6 +344,24 @@ pub(crate) fn tell_place(rt: &HostRuntime, folder: &str, place: &Place) -> Resul
         let _ = eprintln!(rt; "sundr: {folder}/{file}: {LATE}");
     }
     Ok(())
+}
+
+/// Whether a file has nothing.
+fn is_empty(file: &File) -> bool {
+    file.metadata().is_ok_and(|found| found.len() == 0)
+}
+
+/// Tells which of a folder's ledgers, the first one first, are made: they have nothing yet. The seed of one may have signed
+/// with leaves that are free in it, of which nothing tells here.
+pub(crate) fn tell_new_ledgers(rt: &HostRuntime, folder: &str, ledgers: &[File]) {
+    let mut number = 0u8;
+    for ledger in ledgers {
+        if is_empty(ledger) {
+            let file = FolderFile::Ledger(number);
+            let _ = eprintln!(rt; "sundr: {folder}/{file}: {NEW_LEDGER}");
+        }
+        number = number.saturating_add(1);
+    }
 }
 
 /// The files of the ledgers that there are of so many keys, the first one first, up to one that isn't there.
