@@ -41,6 +41,27 @@ impl Found {
             Found::Something => "is a directory, or a name that stands for nothing",
         }
     }
+
+    /// Why a file can't be put.
+    pub(crate) fn no_place(self) -> &'static str {
+        match self {
+            Found::Unasked | Found::Nothing => {
+                "no file can be put there: it is a directory, or no such directory above it"
+            }
+            Found::NothingAbove => "no file can be put there: no such directory above it",
+            Found::Something =>
+                "no file can be put there: it is a directory, or a name that stands for nothing",
+        }
+    }
+
+    /// Why nothing is removed.
+    pub(crate) fn nothing(self) -> &'static str {
+        match self {
+            Found::NothingAbove =>
+                "nothing is there that can be removed, and no such directory above it",
+            _ => "nothing is there that can be removed",
+        }
+    }
 }
 
 /// What stands before the last name of a path, as a path, and that name.
@@ -60,12 +81,14 @@ pub(crate) fn start_alone(path: &str) -> Option<Place> {
     }
 }
 
-/// The path of which it is wanted to see what stands there.
+/// The path of which it is told what stands there.
 fn shown_path<'a>(wanted: &Wanted<'a>) -> Option<&'a str> {
     match wanted {
         Wanted::Get { path, .. } | Wanted::GetTree { path, .. } => Some(*path),
+        Wanted::Put { path, .. } => Some(*path),
         Wanted::Run(command) => match command {
             Command::Ls(path) | Command::Details(path) | Command::Cat(path) => Some(*path),
+            Command::Rm(path) => Some(*path),
             _ => None,
         },
         _ => None,

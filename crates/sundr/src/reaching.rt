@@ -59,8 +59,8 @@ impl Unreached {
             Unreached::NoHost => "no such host",
             Unreached::Refused => "connection refused: does a server listen there?",
             Unreached::Late => "connection timed out: no answer within 10 seconds",
-            Unreached::Memory => "memory ran out as it was reached",
-            Unreached::Other => "can't be reached",
+            // Want of memory is told as that.
+            Unreached::Memory | Unreached::Other => "can't be reached",
         }
     }
 }

@@ -1,6 +1,6 @@
 //! What is told beside an answer on standard error: what it means, and what can be done.
 
-use crate::found::Found;
+use crate::found::{Found, start_alone};
 use crate::hindrance::{FileFault, FolderFile, Hindrance};
 use crate::reaching::Reach;
 use commands::{Answer, Command, Refusal, path_of, place_of};
@@ -10,6 +10,12 @@ use reply_rules::Rule;
 use std::alloc::Global;
 use std::fmt;
 use wire::Status;
+
+/// How many bytes a name has at most.
+const MOST_BYTES: usize = 255;
+
+/// Why a link isn't made at an i-number at which nothing stands.
+const NO_NAME: &str = "isn't a name: a link is one in a directory, as /a/b or @p:i/b";
 
 /// Why a change of what stands at a path had no effect.
 const LOST: &str =
@@ -155,7 +161,7 @@ fn reason_of_status<'a>(status: Status) -> Reason<'a> {
         Status::Busy => ("Busy", "the log of the server is full for now: try again"),
         Status::TooLarge => (
             "TooLarge",
-            "a version is the last one, or a block is too large",
+            "an operation's number is the last one, or a block is too large",
         ),
         Status::Absent => ("Absent", "the server lacks a block"),
         Status::Memory => (
@@ -206,6 +212,25 @@ fn words_of_lost_in(wanted: &Wanted<'_>) -> &'static str {
     }
 }
 
+/// The path that is named, or of two the one that is none.
+fn path_in<'a>(wanted: &Wanted<'a>) -> &'a str {
+    match wanted {
+        Wanted::Move { path, to } if path_of(path).is_some() && path_of(to).is_none() => *to,
+        _ => name_in(wanted),
+    }
+}
+
+/// Why a text is no path, if it is none.
+fn words_of_none(path: &str) -> Option<&'static str> {
+    if path_of(path).is_some() {
+        None
+    } else if path.split('/').any(|name| name.len() > MOST_BYTES) {
+        Some("not a path: a name in it has more than 255 bytes, the most that a name may have")
+    } else {
+        Some("not a path: paths are /, /a/b, @p:i and @p:i/a/b")
+    }
+}
+
 /// Why a command finds no path where its path is one.
 fn words_of_path(command: &Command<'_>, found: Found) -> &'static str {
     match command {
@@ -214,15 +239,16 @@ fn words_of_path(command: &Command<'_>, found: Found) -> &'static str {
         Command::Link { target, .. } if place_of(target).is_none() => {
             "can't lead to that: what it is to lead to is told as @p:i"
         }
-        Command::Rm(_) => "nothing is there that can be removed",
+        Command::Link { path, .. } if start_alone(path).is_some() => NO_NAME,
+        Command::Rm(_) => found.nothing(),
         _ => "can't be made: no such directory above it",
     }
 }
 
 /// Why what is wanted finds no path.
 fn words_of_path_in(wanted: &Wanted<'_>, found: Found) -> &'static str {
-    if path_of(name_in(wanted)).is_none() {
-        return "not a path: paths are /, /a/b, @p:i and @p:i/a/b";
+    if let Some(words) = words_of_none(path_in(wanted)) {
+        return words;
     }
     match wanted {
         Wanted::Run(command) => words_of_path(command, found),
@@ -234,7 +260,7 @@ fn words_of_path_in(wanted: &Wanted<'_>, found: Found) -> &'static str {
         Wanted::PutTree { .. } => {
             "no directory can be there: it is a file, or no such directory above it, or it has a name that none may have"
         }
-        _ => "no file can be put there: it is a directory, or no such directory above it",
+        _ => found.no_place(),
     }
 }
 
@@ -302,7 +328,7 @@ fn reason_of_refusal<'a>(
     refusal: Refusal,
 ) -> Reason<'a> {
     let (name, words) = match refusal {
-        Refusal::NoPath => (name_in(wanted), words_of_path_in(wanted, found)),
+        Refusal::NoPath => (path_in(wanted), words_of_path_in(wanted, found)),
         Refusal::There => (new_name_in(wanted), "already there"),
         Refusal::NotEmpty => (name_in(wanted), "directory not empty"),
         Refusal::NoNumber => (
