@@ -4,7 +4,7 @@ use crate::clients::{HeapClient, client, closed, committed, done, lost};
 use crate::meter::{Heap, MOST, Meter, Swept};
 use crate::plans::{Planned, nothing, number_of, plan};
 use client_tree::Held;
-use consistency_server::{CallKind, MemoryLog, Ordered};
+use consistency_server::{Call, CallKind, MemoryLog, Ordered};
 use layout::{let_go, put_in};
 use lms_sign::{PrivateKey, PublicKey};
 use std::alloc::Global;
@@ -30,6 +30,13 @@ pub(crate) struct Course {
     pub(crate) moves: &'static [u8],
     /// The numbers of lost changes, and the files that are seen, in turn.
     pub(crate) seen: &'static [u8],
+}
+
+/// What came of a course: all that was answered, and the calls in the server's log.
+#[derive(Drop)]
+pub(crate) struct Story {
+    pub(crate) said: Vec<u8>,
+    pub(crate) calls: Vec<Call<Global>>,
 }
 
 /// How many blocks are handed in at most for one reply or one look.
@@ -301,7 +308,7 @@ fn run<'h>(
     keys: &mut Vec<PrivateKey<Heap<'h>>>,
     course: &Course,
     number: u64,
-) -> (Meter<'h>, Vec<u8>) {
+) -> (Meter<'h>, Story) {
     let mut town = beginning(rt, heap, keys);
     let mut clients = clients_of(rt, &town, keys);
     make_all(rt, &mut town, &mut clients, course.before);
@@ -309,11 +316,22 @@ fn run<'h>(
     make_all(rt, &mut town, &mut clients, course.moves);
     check_text(rt, &town.seen, course.seen);
     take_keys(rt, clients, keys);
-    ended(town)
+    ended(rt, town)
 }
 
-/// What is left of a town: who counts, and what was answered.
-fn ended(town: Town<'_>) -> (Meter<'_>, Vec<u8>) {
+/// Copies of the calls of a log.
+fn copies(rt: &impl Aided, log: &MemoryLog<Heap<'_>>) -> Vec<Call<Global>> {
+    let mut calls = Vec::new(rt.alloc());
+    for call in log.calls() {
+        let copy = Call::new(call.kind(), joined(rt, &[call.text()]));
+        given(rt, calls.push(copy), "memory");
+    }
+    calls
+}
+
+/// What is left of a town: who counts, and what came of its course.
+fn ended<'h>(rt: &impl Aided, town: Town<'h>) -> (Meter<'h>, Story) {
+    let calls = copies(rt, &town.log);
     let Town {
         meter,
         keys,
@@ -328,7 +346,7 @@ fn ended(town: Town<'_>) -> (Meter<'_>, Vec<u8>) {
     let_go((ordered, log, blocks));
     let_go((planned, texts));
     let_go((keys, seen));
-    (meter, said)
+    (meter, Story { said, calls })
 }
 
 /// The keys of clients, which are closed.
@@ -342,19 +360,29 @@ fn take_keys<'h>(
     }
 }
 
-/// Makes all moves of a course, where the growth of this number is refused: what is answered is what is always answered.
-/// True where the run meets no refusal.
+/// The calls of a log are the right ones, in order.
+fn are_right(rt: &impl Aided, calls: &[Call<Global>], right: &[Call<Global>]) {
+    check(rt, calls.len() == right.len(), "as many calls");
+    for (call, right) in calls.iter().zip(right) {
+        check(rt, call.kind() == right.kind(), "its kind");
+        check_text(rt, call.text(), right.text());
+    }
+}
+
+/// Makes all moves of a course, where the growth of this number is refused: what is answered, and what is in the log, is
+/// what always is. True where the run meets no refusal.
 fn is_over<'h>(
     rt: &impl Aided,
     heap: Heap<'h>,
     keys: &mut Vec<PrivateKey<Heap<'h>>>,
     course: &Course,
     number: u64,
-    always: &[u8],
+    always: &Story,
     swept: &mut Swept,
 ) -> bool {
-    let (meter, said) = run(rt, heap, keys, course, number);
-    check_text(rt, &said, always);
+    let (meter, story) = run(rt, heap, keys, course, number);
+    check_text(rt, &story.said, &always.said);
+    are_right(rt, &story.calls, &always.calls);
     swept.is_over(rt, &meter)
 }
 
@@ -373,6 +401,14 @@ fn sweep_over<'h>(
         }
     }
     rt.fail("too many growths")
+}
+
+/// What comes of a course where no growth is refused.
+pub(crate) fn story_of(rt: &impl Aided, course: &Course) -> Story {
+    let heap = Refusing::new(rt.alloc());
+    let mut keys = keys_of(rt, &heap, course.users);
+    let (_meter, story) = run(rt, &heap, &mut keys, course, 0);
+    story
 }
 
 /// Refuses each growth of a course in turn.

@@ -1,9 +1,11 @@
 //! Each growth of what these rows do is refused, one a run, until a run meets no refusal.
 
-use crate::courses::{Course, sweep};
+use crate::beside::sweep_calls;
+use crate::courses::{Course, story_of, sweep};
 use crate::here::Here;
 use crate::served::{serve_blocks, serve_calls};
 use crate::stored::sweep_blocks;
+use tests_aids::Aided;
 
 /// What a client keeps of blocks for later it goes without where memory runs out for it: these calls answer as always.
 const KEEPS: &[u8] = b"brnlg";
@@ -32,6 +34,26 @@ static DROPPED_MEMBER: Course = Course {
     moves: b"+1 j1 b0 u0 c0 mgold b1 u1 c1 pgnew b1 d1 b0 u0 c0 u1 c1 l1g",
     seen: b"1old",
 };
+
+/// How many growths of the server's calls of a course are refused: after status 9 who comes next is answered as if the
+/// call hadn't come.
+fn traceless(rt: &impl Aided, course: &Course) -> u64 {
+    let story = story_of(rt, course);
+    sweep_calls(rt, course.users, &story.calls)
+}
+
+#[test]
+fn status_nine_leaves_no_trace(rt: HostRuntime) {
+    let host = &(&rt, Here);
+    let found = [
+        traceless(host, &FIRST),
+        traceless(host, &TWO_WRITERS),
+        traceless(host, &DROPPED_MEMBER),
+    ];
+    if found != [21, 143, 86] {
+        host.fail(format_args!("{found:?}"));
+    }
+}
 
 #[test]
 fn each_growth_refused_first_operation(rt: HostRuntime) {
