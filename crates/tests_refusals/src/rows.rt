@@ -3,9 +3,11 @@
 use crate::beside::sweep_calls;
 use crate::courses::{Course, story_of, sweep};
 use crate::here::Here;
-use crate::served::{serve_blocks, serve_calls};
+use crate::served::{COMMIT, REPLY_SIZE, UPDATE, first_calls, serve_blocks, serve_calls};
 use crate::stored::sweep_blocks;
-use tests_aids::Aided;
+use consistency_server::CallKind;
+use tests_aids::texts::{first_reply, joined};
+use tests_aids::{Aided, check, check_text};
 
 /// What a client keeps of blocks for later it goes without where memory runs out for it: these calls answer as always.
 const KEEPS: &[u8] = b"brnlg";
@@ -34,6 +36,46 @@ static DROPPED_MEMBER: Course = Course {
     moves: b"+1 j1 b0 u0 c0 mgold b1 u1 c1 pgnew b1 d1 b0 u0 c0 u1 c1 l1g",
     seen: b"1old",
 };
+
+/// A text has the size that the front of its frame tells, which counts a byte more.
+fn is_framed(rt: &impl Aided, text: &[u8], front: &[u8]) {
+    let size = text.len().wrapping_add(1).to_be_bytes();
+    check(rt, front.get(..4) == size.get(4..), "its frame's size");
+}
+
+/// User 0's first operation comes to what is made by hand, of the sizes that the formats tell.
+#[test]
+fn the_first_operation_is_as_made_by_hand(rt: HostRuntime) {
+    let host = &(&rt, Here);
+    let story = story_of(host, &FIRST);
+    let (update, commit) = first_calls(host);
+    let reply = first_reply(host, &update);
+    is_framed(host, &update, UPDATE);
+    is_framed(host, &commit, COMMIT);
+    check(
+        host,
+        reply.len().wrapping_add(1) == REPLY_SIZE,
+        "the reply's",
+    );
+    let begins = update.starts_with(b"SUC1\0\0\0\0\x01");
+    check(host, begins, "user 0's first certificate");
+    check_text(
+        host,
+        &story.said,
+        &joined(host, &[&update, &reply, &commit]),
+    );
+    let [declared, committed] = story.calls.as_slice() else {
+        host.fail("not two calls");
+    };
+    check(host, declared.kind() == CallKind::Update, "it is declared");
+    check_text(host, declared.text(), &update);
+    check(
+        host,
+        committed.kind() == CallKind::Commit,
+        "it is committed",
+    );
+    check_text(host, committed.text(), &commit);
+}
 
 /// How many growths of the server's calls of a course are refused: after status 9 who comes next is answered as if the
 /// call hadn't come.

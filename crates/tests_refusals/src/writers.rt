@@ -5,7 +5,7 @@ ghost use Rattle.crossbeam_queue.specs.Passes.{IsPassOf, ruled_capacity};
 ghost use Rattle.server_workers.specs.Hands.{hand, hand_of};
 
 use crate::here::Here;
-use crate::served::{COMMIT, UPDATE, first_calls};
+use crate::served::{COMMIT, UPDATE, first_calls, log_of};
 use crate::stored::Host;
 use block_store::Store;
 use connection::MemoryConnection;
@@ -102,10 +102,7 @@ fn written<R: Host>(rt: &R, pinned: PublicKey, requests: &[u8], left: usize) -> 
 fn a_writer_fails_after_each_number_of_bytes(rt: HostRuntime) {
     let host = &(&rt, Here);
     let (update, commit) = first_calls(host);
-    let log = joined(
-        host,
-        &[b"\x01\0\0\x09\xf6", &update, b"\x02\0\0\x0a\x23", &commit],
-    );
+    let log = log_of(host, &update, &commit);
     check(host, log.len() == 5_155, "the size of the log");
     let requests = joined(host, &[UPDATE, &update, COMMIT, &commit]);
     let pinned = key_of(host, 0).public();
