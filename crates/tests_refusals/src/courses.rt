@@ -24,8 +24,11 @@ use wire::Status;
 /// - `u1`: it is placed, its reply is judged, and user 1 signs;
 /// - `c1`: it is committed;
 /// - `l12`: user 1 looks at user 2's place, and `l1g` at the group's.
+#[derive(Clone, Copy)]
 pub(crate) struct Course {
     pub(crate) users: u8,
+    /// How many blocks each client's cache may have.
+    pub(crate) cached: usize,
     pub(crate) before: &'static [u8],
     pub(crate) moves: &'static [u8],
     /// The numbers of lost changes, and the files that are seen, in turn.
@@ -38,6 +41,9 @@ pub(crate) struct Story {
     pub(crate) said: Vec<u8>,
     pub(crate) calls: Vec<Call<Global>>,
 }
+
+/// No cache may have more blocks.
+const MOST_CACHED: usize = 4_096;
 
 /// How many blocks are handed in at most for one reply or one look.
 const BOUND: usize = 100;
@@ -259,11 +265,20 @@ fn beginning<'h>(rt: &impl Aided, heap: Heap<'h>, keys: &[PrivateKey<Heap<'h>>])
     }
 }
 
+/// A client's cache may have so many blocks.
+fn set_cache(rt: &impl Aided, client: &mut HeapClient<'_>, cached: usize) {
+    if cached == 0 || cached > MOST_CACHED {
+        rt.fail("no such cache");
+    }
+    client.cache(cached);
+}
+
 /// The clients of users who have these keys, which are used up.
 fn clients_of<'h>(
     rt: &impl Aided,
     town: &Town<'h>,
     keys: &mut Vec<PrivateKey<Heap<'h>>>,
+    cached: usize,
 ) -> Vec<HeapClient<'h>> {
     let pinned = *found(rt, town.keys.first(), "a key");
     let mut clients = Vec::new(rt.alloc());
@@ -271,7 +286,8 @@ fn clients_of<'h>(
         if keys.is_empty() {
             return clients;
         }
-        let client = client(rt, town.meter.heap, user, keys.remove(0), pinned);
+        let mut client = client(rt, town.meter.heap, user, keys.remove(0), pinned);
+        set_cache(rt, &mut client, cached);
         given(rt, clients.push(client), "memory");
     }
     rt.fail("too many users")
@@ -295,7 +311,7 @@ pub(crate) fn after<'h>(
     moves: &[u8],
 ) -> Vec<HeapClient<'h>> {
     let mut town = beginning(rt, heap, keys);
-    let mut clients = clients_of(rt, &town, keys);
+    let mut clients = clients_of(rt, &town, keys, MOST_CACHED);
     make_all(rt, &mut town, &mut clients, moves);
     clients
 }
@@ -310,7 +326,7 @@ fn run<'h>(
     number: u64,
 ) -> (Meter<'h>, Story) {
     let mut town = beginning(rt, heap, keys);
-    let mut clients = clients_of(rt, &town, keys);
+    let mut clients = clients_of(rt, &town, keys, course.cached);
     make_all(rt, &mut town, &mut clients, course.before);
     put_in(&mut town.meter, Meter::new(heap, number));
     make_all(rt, &mut town, &mut clients, course.moves);

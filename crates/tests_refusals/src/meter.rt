@@ -1,7 +1,7 @@
 //! The memory of what is tried, of which one growth is refused in a run, and what is told of that.
 
 use std::alloc::Global;
-use tests_aids::{Aided, check, given};
+use tests_aids::{Aided, check, check_text, given};
 use tests_refusing::Refusing;
 
 /// The memory of what is tried. Devices, keys and what a test itself keeps lie in another one.
@@ -93,5 +93,14 @@ impl Swept {
         for call in &self.untold {
             check(rt, of.contains(call), "a call that has to tell so");
         }
+    }
+
+    /// So many growths were refused, and all were told but these calls', one after another.
+    pub(crate) fn has_untold(&self, rt: &impl Aided, refused: u64, untold: &[u8]) {
+        let found = self.refused;
+        if found != refused {
+            rt.fail(format_args!("{found} growths"));
+        }
+        check_text(rt, &self.untold, untold);
     }
 }

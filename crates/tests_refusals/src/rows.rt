@@ -12,9 +12,22 @@ use tests_aids::{Aided, check, check_text};
 /// What a client keeps of blocks for later it goes without where memory runs out for it: these calls answer as always.
 const KEEPS: &[u8] = b"brnlg";
 
+/// A file of one block that is laid out has an i-node, too: of `begin` the digests of both are refused, and a copy of each.
+const FILE: &[u8] = b"bbb";
+
+/// The room of a cache takes five growths: of `begin` where it gets a block that was laid out, and of `on_block` where it
+/// gets one that was read.
+const ROOM_LAID: &[u8] = b"bbbbb";
+
+const ROOM_READ: &[u8] = b"nnnnn";
+
+/// So many blocks a client's cache may have at first.
+const CACHED_AT_FIRST: usize = 1_024;
+
 /// User 0's first operation, without changes.
 static FIRST: Course = Course {
     users: 1,
+    cached: CACHED_AT_FIRST,
     before: b"",
     moves: b"b0 u0 c0",
     seen: b"",
@@ -24,6 +37,7 @@ static FIRST: Course = Course {
 /// and user 0 reads: both writes both times.
 static TWO_WRITERS: Course = Course {
     users: 3,
+    cached: CACHED_AT_FIRST,
     before: b"+1 +2 b0 u0 c0 m1one b1 u1 c1 m2two b2 u2 c2",
     moves: b"p1uno b1 p2due b2 u1 u2 c2 b0 u0 c0 l01 l02 c1 b0 u0 c0 l01 l02",
     seen: b"unodueunodue",
@@ -32,6 +46,7 @@ static TWO_WRITERS: Course = Course {
 /// A member declares that it puts a file, and is dropped before that is placed: the change is lost.
 static DROPPED_MEMBER: Course = Course {
     users: 2,
+    cached: CACHED_AT_FIRST,
     before: b"",
     moves: b"+1 j1 b0 u0 c0 mgold b1 u1 c1 pgnew b1 d1 b0 u0 c0 u1 c1 l1g",
     seen: b"1old",
@@ -113,6 +128,28 @@ fn each_growth_refused_two_writers(rt: HostRuntime) {
 fn each_growth_refused_dropped_member(rt: HostRuntime) {
     let rt = &(rt, Here);
     sweep(rt, &DROPPED_MEMBER).is(rt, 734, 38, KEEPS);
+}
+
+/// A course over caches of one block. What is untold then follows from its moves: so much where a file is laid out, and
+/// where a client's cache gets its first blocks.
+fn has_untold(rt: &impl Aided, course: Course, growths: u64, untold: &[&[u8]]) {
+    let cached = 1;
+    let swept = sweep(rt, &Course { cached, ..course });
+    swept.has_untold(rt, growths, &joined(rt, untold));
+}
+
+/// Both files are put: user 0's cache had no block before.
+#[test]
+fn each_growth_refused_two_writers_small_caches(rt: HostRuntime) {
+    let rt = &(rt, Here);
+    has_untold(rt, TWO_WRITERS, 1063, &[FILE, FILE, ROOM_READ]);
+}
+
+/// User 1 makes a file, by which its cache has its first block, and puts it; then user 0 reads blocks.
+#[test]
+fn each_growth_refused_dropped_member_small_caches(rt: HostRuntime) {
+    let rt = &(rt, Here);
+    has_untold(rt, DROPPED_MEMBER, 732, &[ROOM_LAID, FILE, FILE, ROOM_READ]);
 }
 
 /// Of a store's forty blocks one makes room for later ones early, and goes without where memory runs out for that.
