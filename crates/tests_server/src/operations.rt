@@ -163,11 +163,21 @@ fn so_many(others: u8, each: u32) -> Coming {
     }
 }
 
-/// Two clients, five, and three that bring more records than the log has room for to the writer while the workers run.
+/// Two clients over a connection each.
 #[test]
 fn operations_over_loopback(rt: HostRuntime) {
     are_served(&rt, so_many(1, 1), 4);
+}
+
+/// Four users make 25 operations each, over a connection of their own.
+#[test]
+fn hundred_operations(rt: HostRuntime) {
     are_served(&rt, so_many(4, 25), 202);
+}
+
+/// Two users bring more records than the log has room for: to the writer, while the workers run.
+#[test]
+fn flusher_beside(rt: HostRuntime) {
     are_served(&rt, so_many(2, 300), 1202);
 }
 
