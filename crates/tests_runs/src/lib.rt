@@ -1,9 +1,8 @@
 //! Tests of whole runs: what clients answer that stand alone, `fork_consistency::run` answers to the same steps, over
 //! crashes, over devices that fail, and where users get further keys; a run in which the premises of fork consistency
-//! hold, beside the worlds of its lines; one in which a user's key is stolen, and what is still others' own there; what
-//! scripts print, byte for byte; a small world in every order of its steps; and what a server comes to that lies: each
-//! lie, sixty scripts with the rule by which each is refused, that in two scripts no two texts share a digest, and that
-//! it answers as the honest server where it doesn't lie.
+//! hold, beside the worlds of its lines; one in which a user's key is stolen, and what is still others' own there; that
+//! in two scripts no two texts share a digest, and that a server that can lie answers as the honest one where it doesn't.
+//! What scripts print stands in `scripts/`.
 #![tactic(auto)]
 
 #[cfg(test)]
@@ -35,11 +34,7 @@ mod honest_play;
 #[cfg(test)]
 mod honest_random;
 #[cfg(test)]
-mod hostile_sixty;
-#[cfg(test)]
 mod instance;
-#[cfg(test)]
-mod lies;
 #[cfg(test)]
 mod lines;
 #[cfg(test)]
@@ -57,21 +52,15 @@ mod refuted;
 #[cfg(test)]
 mod renewed_runs;
 #[cfg(test)]
-mod renewed_scripts;
-#[cfg(test)]
 mod runs;
 #[cfg(test)]
 mod scripts;
 #[cfg(test)]
 mod servers;
 #[cfg(test)]
-mod small_world;
-#[cfg(test)]
 mod stage;
 #[cfg(test)]
 mod stolen_run;
-#[cfg(test)]
-mod stolen_scripts;
 #[cfg(test)]
 mod thief;
 #[cfg(test)]

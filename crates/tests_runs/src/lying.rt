@@ -1,8 +1,8 @@
 //! Clients at a server that can lie. No two different texts that are hashed have one digest, in the script with a
-//! swapped plan (`hostile_sixty.rt`) and in the one with a dropped member (`scripts.rt`): so what is promised where no
-//! two texts collide is promised of both. Their servers sign nothing. The steps of the scripts are taken call by call,
-//! by clients with the same keys, so that each text is seen. The look at the end of the second one is left out: it
-//! hashes nothing new. And a server that can lie, and has no reason to, answers as the honest one.
+//! swapped plan (`scripts/renewals/plan-swapped`) and in the one with a dropped member (`member-dropped` beside it): so
+//! what is promised where no two texts collide is promised of both. Their servers sign nothing. The steps of the scripts
+//! are taken call by call, by clients with the same keys, so that each text is seen. The look at the end of the second
+//! one is left out: it hashes nothing new. And a server that can lie, and has no reason to, answers as the honest one.
 
 use crate::here::Here;
 use crate::premises::none_collide;
