@@ -1,14 +1,13 @@
 //! Times of an i-table in which each i-number has a digest.
 
-use crate::host::Host;
-use crate::time::{NOTHING, Round, now, since};
+use crate::time::{Host, NOTHING, PIECES, Round, now, since};
 use anyhow::Result;
 use itable::ITable;
 use layout::{Digest, INumber, Memory, Principal, User, let_go};
 use std::alloc::Global;
 
 /// What is timed.
-pub(crate) static NAMES: [&str; 3] = ["4095 sets", "handle", "handle after one set"];
+pub(crate) static NAMES: [&str; PIECES] = ["4095 sets", "handle", "handle after one set"];
 
 /// The texts of chunks 1 to 63 have 2,182 bytes, that of chunk 0 has 2,148, and that of the root 2,118.
 const CHUNK: u32 = 35;

@@ -1,7 +1,6 @@
 //! Times of keys and signatures.
 
-use crate::host::Host;
-use crate::time::{NOTHING, Round, middle, now, since};
+use crate::time::{Host, NOTHING, PIECES, Round, middle, now, since};
 use anyhow::{Result, anyhow};
 use layout::let_go;
 use lms_sign::{Leaf, PrivateKey, sign, verify};
@@ -10,7 +9,7 @@ use std::rt::Clock;
 use std::time::Duration;
 
 /// What is timed.
-pub(crate) static NAMES: [&str; 3] = ["key", "sign", "verify"];
+pub(crate) static NAMES: [&str; PIECES] = ["key", "sign", "verify"];
 
 /// How many leaves are used to time a signature.
 const LEAVES: usize = 255;
@@ -51,7 +50,7 @@ fn times_by(clock: &impl Clock, key: &PrivateKey<Global>) -> Result<(Duration, D
 }
 
 /// The middle times of many signatures of a short text, and of as many verifications.
-pub(crate) fn signing(clock: &impl Clock, alloc: Global) -> Result<(Duration, Duration)> {
+fn signing(clock: &impl Clock, alloc: Global) -> Result<(Duration, Duration)> {
     let key = PrivateKey::from_seed(alloc, [9; 32], [9; 16])?;
     let times = times_by(clock, &key);
     let_go(key);

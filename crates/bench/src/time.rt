@@ -10,8 +10,13 @@ use std::time::Duration;
 /// How many blocks are compressed to time one.
 const BLOCKS: u32 = 1 << 18;
 
-/// How many pieces of work a round has at most.
-pub(crate) const PIECES: usize = 6;
+/// How many pieces of work a round has.
+pub(crate) const PIECES: usize = 3;
+
+/// What is taken of the system.
+pub(crate) trait Host: AllocGlobal + Clock + Print {}
+
+impl<R: AllocGlobal + Clock + Print> Host for R {}
 
 /// How long each piece of work of a round took, and how many compressions of SHA-256 it needs.
 pub(crate) type Round = [(Duration, u32); PIECES];
@@ -52,8 +57,9 @@ impl Time {
 
     /// Prints it, and how much of it the compressions take that the work needs.
     pub(crate) fn print(self, rt: &impl Print, name: &str) -> io::Result<()> {
-        let needed = self.compressions * self.unit;
-        row(rt, name, self.seconds, needed, "hashing")
+        let (whole, needed) = (self.seconds * 1e6, self.compressions * self.unit);
+        let share = needed / self.seconds * 100.0;
+        println!(rt; "{name:22} {whole:10.1} us, {share:5.1} % of it hashing")
     }
 }
 
@@ -83,22 +89,10 @@ pub(crate) fn compress(clock: &impl Clock) -> (f64, [u8; 32]) {
     (seconds / f64::from(BLOCKS), digest)
 }
 
-/// The middle one of so many times or ratios.
-pub(crate) fn middle<T: Copy + Ord>(values: &mut [T]) -> T
+/// The middle one of so many times.
+pub(crate) fn middle(values: &mut [Duration]) -> Duration
     requires { 0 < length values.old }
 {
     values.sort_unstable();
     values[values.len() / 2]
-}
-
-/// Prints how long a piece of work takes, and how much of that what it needs takes.
-pub(crate) fn row(
-    rt: &impl Print,
-    name: &str,
-    seconds: f64,
-    needed: f64,
-    what: &str,
-) -> io::Result<()> {
-    let (whole, share) = (seconds * 1e6, needed / seconds * 100.0);
-    println!(rt; "{name:22} {whole:10.1} us, {share:5.1} % of it {what}")
 }
