@@ -13,6 +13,8 @@ mod here;
 #[cfg(test)]
 mod i_tables;
 #[cfg(test)]
+mod i_tables_in_part;
+#[cfg(test)]
 mod last_blocks;
 #[cfg(test)]
 mod lists;

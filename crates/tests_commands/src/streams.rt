@@ -2,10 +2,8 @@
 
 ghost use Rattle.std.specs.Prelude.{◌<◌};
 
-use crate::here::Here;
 use std::alloc::Global;
-use tests_aids::texts::joined;
-use tests_aids::{Aided, Host};
+use std::process::Abort;
 use wire::{FrameError, Frames};
 
 /// What comes next of a stream: the bytes of a body, none of which is empty, or else nothing yet.
@@ -15,7 +13,12 @@ const NOTHING: Option<&[u8]> = Some(&[]);
 const FAULT: Option<&[u8]> = None;
 
 /// Hands in the next bytes of a stream, if any, and tells whether this comes next.
-fn gives(rt: &impl Host, frames: &mut Frames<Global>, bytes: &[u8], wanted: Option<&[u8]>) -> bool {
+fn gives(
+    rt: &(impl Abort + Alloc<A = Global>),
+    frames: &mut Frames<Global>,
+    bytes: &[u8],
+    wanted: Option<&[u8]>,
+) -> bool {
     if !bytes.is_empty() {
         frames.feed(bytes).expect(rt, "memory");
     }
@@ -30,8 +33,18 @@ fn gives(rt: &impl Host, frames: &mut Frames<Global>, bytes: &[u8], wanted: Opti
 /// The body of the frame of an UPDATE without changes is as long: 2,551 bytes.
 const UPDATE: &[u8] = &[1; 2551];
 
+/// How long it is, in four bytes.
+const LENGTH: [u8; 4] = [0, 0, 0x09, 0xf7];
+
+/// The frame of this body.
+fn frame_of(rt: &(impl Abort + Alloc<A = Global>), length: [u8; 4], body: &[u8]) -> Vec<u8> {
+    let mut frame = Vec::from_slice(rt.alloc(), &length).expect(rt, "memory");
+    frame.extend_from_slice(body).expect(rt, "memory");
+    frame
+}
+
 /// That frame comes in two pieces, of which the second one isn't empty.
-fn comes_in_two(rt: &impl Host, front: &[u8], rest: &[u8]) {
+fn comes_in_two(rt: &(impl Abort + Alloc<A = Global>), front: &[u8], rest: &[u8]) {
     let mut frames = Frames::new(rt.alloc());
     assert!(rt; gives(rt, &mut frames, front, NOTHING), "{front:?}");
     let comes = gives(rt, &mut frames, rest, Some(UPDATE));
@@ -43,8 +56,7 @@ fn comes_in_two(rt: &impl Host, front: &[u8], rest: &[u8]) {
 
 #[test]
 fn no_frame_before_its_last_byte(rt: HostRuntime) {
-    let rt = (rt, Here);
-    let frame = joined(&rt, &[&[0, 0, 0x09, 0xf7], UPDATE]);
+    let frame = frame_of(&rt, LENGTH, UPDATE);
     for cut in 0..frame.len() {
         let (front, rest) = frame.split_at(cut);
         comes_in_two(&rt, front, rest);
@@ -53,9 +65,8 @@ fn no_frame_before_its_last_byte(rt: HostRuntime) {
 
 #[test]
 fn a_frame_comes_by_bytes(rt: HostRuntime) {
-    let rt = (rt, Here);
     let mut frames = Frames::new(rt.alloc());
-    for byte in &joined(&rt, &[&[0, 0, 0x09, 0xf7], UPDATE]) {
+    for byte in &frame_of(&rt, LENGTH, UPDATE) {
         assert!(rt;
             gives(&rt, &mut frames, &[], NOTHING),
             "before the last byte"
@@ -67,7 +78,7 @@ fn a_frame_comes_by_bytes(rt: HostRuntime) {
 }
 
 /// After a frame, with which all but a byte of this length comes, the length is at fault whatever follows.
-fn stays_at_fault(rt: &impl Host, [a, b, c, d]: [u8; 4]) {
+fn stays_at_fault(rt: &(impl Abort + Alloc<A = Global>), [a, b, c, d]: [u8; 4]) {
     let mut frames = Frames::new(rt.alloc());
     assert!(rt; gives(rt, &mut frames, &[], NOTHING), "before any byte");
     frames.feed(&[0, 0, 0, 2, 5, 6]).expect(rt, "memory");
@@ -86,7 +97,6 @@ fn stays_at_fault(rt: &impl Host, [a, b, c, d]: [u8; 4]) {
 /// Lengths 0, 2,097,153 and 4,294,967,295.
 #[test]
 fn a_length_at_fault_stays(rt: HostRuntime) {
-    let rt = (rt, Here);
     for length in [[0, 0, 0, 0], [0, 0x20, 0, 1], [0xff; 4]] {
         stays_at_fault(&rt, length);
     }
@@ -94,9 +104,8 @@ fn a_length_at_fault_stays(rt: HostRuntime) {
 
 #[test]
 fn the_largest_frame_passes(rt: HostRuntime) {
-    let rt = (rt, Here);
     let body = Vec::from_elem(rt.alloc(), 9u8, 2_097_152).expect(&rt, "memory");
-    let frame = joined(&rt, &[&[0, 0x20, 0, 0], &body]);
+    let frame = frame_of(&rt, [0, 0x20, 0, 0], &body);
     let mut frames = Frames::new(rt.alloc());
     for piece in frame.chunks(65_536) {
         assert!(rt;
@@ -118,7 +127,7 @@ fn the_largest_frame_passes(rt: HostRuntime) {
 }
 
 /// How many frames come of the stream in pieces of this size, each of which holds its number.
-fn count_in_pieces(rt: &impl Host, stream: &[u8], size: usize) -> u32
+fn count_in_pieces(rt: &(impl Abort + Alloc<A = Global>), stream: &[u8], size: usize) -> u32
     requires { 0 < size }
 {
     let mut frames = Frames::new(rt.alloc());
@@ -137,7 +146,6 @@ fn count_in_pieces(rt: &impl Host, stream: &[u8], size: usize) -> u32
 
 #[test]
 fn a_long_stream_comes_in_order(rt: HostRuntime) {
-    let rt = (rt, Here);
     let mut stream = Vec::new(rt.alloc());
     for number in 0..10_000u32 {
         let [a, b, c, d] = number.to_be_bytes();
