@@ -1,5 +1,5 @@
-//! Tries cases of texts, of rules and of command lines, from files that its words name, and prints each line on which it
-//! finds something else than what is wanted, and how many cases each file has.
+//! Tries cases from files that its words name, and prints each line on which it finds something else than what is
+//! wanted, and how many cases each file has.
 #![tactic(auto)]
 
 mod case;

@@ -1,6 +1,6 @@
-//! Bytes, as words spell them: `'` before letters, pairs of hexadecimal digits, `:` before a number of four bytes and `;`
-//! before one of two; and of a name that bytes have, `$` before it for the bytes, `+` for their size in two bytes, and
-//! `#` for their digest. But for letters, `*` and a number after a word say how often it stands there.
+//! Bytes, as words spell them: `'` before letters, pairs of hexadecimal digits, `:` before a number of four bytes and
+//! `;` before one of two; and of a name that bytes have, `$` before it for the bytes, `+` for their size in two bytes,
+//! and `#` for their digest. But for letters, `*` and a number after a word say how often it stands there.
 
 use crate::stop::Stop;
 use crate::words::{Words, number};

@@ -1,6 +1,6 @@
-//! Tests of what stands beside the client and below its sessions: commands, their words and their answers, transports and
-//! streams, signatures from outside, keys that are drawn over all processors, what is known of checked blocks, and blocks
-//! that are kept.
+//! Tests of what stands beside the client and below its sessions: commands, their words and their answers, transports
+//! and streams, signatures from outside, keys that are drawn over all processors, what is known of checked blocks, and
+//! blocks that are kept.
 #![tactic(auto)]
 
 #[cfg(test)]
