@@ -1,9 +1,13 @@
 //! Cases: of each line what is answered, and whether it is what is wanted.
 
+use crate::blocks::{change, hold, look, spot, tree};
 use crate::certificates::certificate;
 use crate::directories::directory;
 use crate::errors::error;
+use crate::files::file;
 use crate::frames::frame;
+use crate::i_tables::i_table;
+use crate::lists::{list, operation};
 use crate::names::push;
 use crate::plans::plan;
 use crate::reading::{read, read_once};
@@ -56,6 +60,29 @@ fn digest_of(world: &mut World, words: &mut Words<'_>) -> Result<(), Stop> {
     world.say_digits(digest(&bytes).as_bytes())
 }
 
+/// No block is held any more.
+fn forget(world: &mut World) -> Result<(), Stop> {
+    world.held.clear();
+    Ok(())
+}
+
+/// What is answered to the words after a verb of rules.
+fn rule_answer(world: &mut World, verb: &str, words: &mut Words<'_>) -> Result<(), Stop> {
+    match verb {
+        "op" => operation(world, words),
+        "list" => list(world, words),
+        "hold" => hold(world, words),
+        "forget" => forget(world),
+        "spot" => spot(world, words),
+        "tree" => tree(world, words),
+        "look" => look(world, words),
+        "change" => change(world, words),
+        "i_table" => i_table(world, words),
+        "file" => file(world, words),
+        _ => Err(Stop::Word),
+    }
+}
+
 /// What is answered to the words after a verb.
 fn answer(world: &mut World, verb: &str, words: &mut Words<'_>) -> Result<(), Stop> {
     match verb {
@@ -74,7 +101,7 @@ fn answer(world: &mut World, verb: &str, words: &mut Words<'_>) -> Result<(), St
         "frame" => frame(world, words),
         "reply" => reply(world, words),
         "error" => error(world, words),
-        _ => Err(Stop::Word),
+        _ => rule_answer(world, verb, words),
     }
 }
 

@@ -1,13 +1,15 @@
 //! What errors print, each by its number among those of its kind.
 
 use crate::stop::Stop;
-use crate::words::Words;
+use crate::words::{Words, found};
 use crate::world::World;
 use directory::DirError;
 use itable::LayError;
-use layout::{Memory, ReadError};
+use layout::{Digest, Memory, Principal, ReadError};
 use principals::TableError;
+use reply_rules::Rule;
 use std::fmt::Display;
+use tree_parts::{ApplyError, Spot};
 use version_order::PlanError;
 use wire::FrameError;
 
@@ -46,6 +48,24 @@ static PLANNING: [PlanError; 2] = [PlanError::Limit, PlanError::Memory];
 
 static FRAMING: [FrameError; 2] = [FrameError::Length, FrameError::Memory];
 
+static RULES: [Rule; 15] = [
+    Rule::Form,
+    Rule::Lists,
+    Rule::OwnLast,
+    Rule::OwnPending,
+    Rule::SuperSignature,
+    Rule::Block,
+    Rule::Content,
+    Rule::UnknownUser,
+    Rule::Signature,
+    Rule::Certificate,
+    Rule::Numbers,
+    Rule::Vector,
+    Rule::Entries,
+    Rule::Link,
+    Rule::GroupRecord,
+];
+
 static MEMORY: [Memory; 1] = [Memory];
 
 /// Says what the error of a number prints.
@@ -53,6 +73,30 @@ fn say<E: Display>(world: &mut World, errors: &[E], number: u32) -> Result<(), S
     match errors.get(number as usize) {
         Some(error) => world.show(format_args!("{error}")),
         None => Err(Stop::Word),
+    }
+}
+
+/// Says the number and the name of a rule.
+fn say_rule(world: &mut World, number: u32) -> Result<(), Stop> {
+    match RULES.get(number as usize) {
+        Some(rule) => {
+            let number = rule.number();
+            world.show(format_args!("{number} {rule}"))
+        }
+        None => Err(Stop::Word),
+    }
+}
+
+/// Says what an error of changes prints.
+fn say_applying(world: &mut World, number: u32) -> Result<(), Stop> {
+    match number {
+        0 => {
+            let root = Spot::Root(found(Principal::new(0))?);
+            let missing = ApplyError::Missing(Digest::from_bytes([0; 32]), root);
+            world.show(format_args!("{missing}"))
+        }
+        1 => world.show(format_args!("{}", ApplyError::Memory)),
+        _ => Err(Stop::Word),
     }
 }
 
@@ -68,6 +112,8 @@ pub(crate) fn error(world: &mut World, words: &mut Words<'_>) -> Result<(), Stop
         "laying" => say(world, &LAYING, number),
         "planning" => say(world, &PLANNING, number),
         "framing" => say(world, &FRAMING, number),
+        "rule" => say_rule(world, number),
+        "applying" => say_applying(world, number),
         _ => Err(Stop::Word),
     }
 }

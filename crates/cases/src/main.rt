@@ -2,11 +2,15 @@
 //! wanted, and how many cases each file has.
 #![tactic(auto)]
 
+mod blocks;
 mod case;
 mod certificates;
 mod directories;
 mod errors;
+mod files;
 mod frames;
+mod i_tables;
+mod lists;
 mod names;
 mod plans;
 mod reading;

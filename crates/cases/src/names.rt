@@ -38,7 +38,7 @@ impl Names {
     }
 
     /// The bytes of a name.
-    fn bytes_of(&self, name: &str) -> Result<&[u8], Stop> {
+    pub(crate) fn bytes_of(&self, name: &str) -> Result<&[u8], Stop> {
         for named in self.all.iter().rev() {
             if named.name.as_str() == name {
                 return Ok(&named.bytes);
@@ -112,7 +112,7 @@ pub(crate) fn push(text: &mut Vec<u8>, bytes: &[u8]) -> Result<(), Stop> {
 }
 
 /// A size in two bytes.
-fn two_bytes(size: usize) -> Result<[u8; 2], Stop> {
+pub(crate) fn two_bytes(size: usize) -> Result<[u8; 2], Stop> {
     match u16::try_from(size) {
         Ok(size) => Ok(size.to_be_bytes()),
         Err(_) => Err(Stop::Word),

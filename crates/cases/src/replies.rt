@@ -1,10 +1,13 @@
-//! Replies: what stands above their structures.
+//! Replies: what stands above their structures, and which rule on their lists they break.
 
 use crate::stop::Stop;
 use crate::words::Words;
 use crate::world::World;
-use layout::let_go;
+use first_rule::broken;
+use layout::{Text, let_go};
 use pending_list::{Reply, depth_of_top, digest_of_last, is_above, top};
+use principals::Table;
+use reply_rules::{Rule, above_top, lists_hold};
 use std::alloc::Global;
 
 /// Whether the first pending operation is above the structures.
@@ -21,6 +24,33 @@ fn say_last(world: &mut World, reply: &Reply<Global>) -> Result<(), Stop> {
     world.say_digits(digest.as_bytes())
 }
 
+/// The first rule on the lists that the reply breaks by the table of principals `$table`.
+fn say_broken(world: &mut World, reply: &Reply<Global>) -> Result<(), Stop> {
+    if !lists_hold(reply) {
+        return world.show(Rule::Lists);
+    }
+    let Some(own) = reply.pending().last() else {
+        return Err(Stop::Word);
+    };
+    let text = world.names.bytes_of("table")?;
+    let table: Table<Global> = Table::read(world.alloc, text)?;
+    let rule = broken(world.alloc, reply, &table, own.plan().user());
+    let_go(table);
+    match rule? {
+        Some(rule) => world.show(rule),
+        None => world.say("none"),
+    }
+}
+
+/// How many operations are above the structures.
+fn count_above(world: &mut World, reply: &Reply<Global>) -> Result<(), Stop> {
+    if lists_hold(reply) {
+        world.show(above_top(reply).len())
+    } else {
+        world.show(Rule::Lists)
+    }
+}
+
 /// What a reply says.
 fn said(world: &mut World, reply: &Reply<Global>, verb: &str) -> Result<(), Stop> {
     match verb {
@@ -28,6 +58,8 @@ fn said(world: &mut World, reply: &Reply<Global>, verb: &str) -> Result<(), Stop
         "top" => world.say_whether(top(reply).is_some()),
         "depth" => world.show(depth_of_top(reply)),
         "last" => say_last(world, reply),
+        "breaks" => say_broken(world, reply),
+        "count" => count_above(world, reply),
         _ => Err(Stop::Word),
     }
 }

@@ -1,6 +1,7 @@
 //! Why a case has no answer but this.
 
 use directory::DirError;
+use itable::LayError;
 use layout::{Memory, ReadError};
 use principals::TableError;
 use std::alloc::{AllocError, AllocFailed};
@@ -55,6 +56,14 @@ pub(crate) enum Stop {
     Limit,
     /// There is nothing of this kind.
     Nothing,
+    /// The chunk of an i-number isn't loaded.
+    NotLoaded,
+    /// The chunk of an i-number is loaded already.
+    Loaded,
+    /// A chunk isn't the one that the root lists.
+    AnotherChunk,
+    /// A file has more bytes than a file may have.
+    TooLarge,
 }
 
 impl Stop {
@@ -84,6 +93,10 @@ impl Stop {
             Stop::BadName => "bad name",
             Stop::Limit => "limit",
             Stop::Nothing => "none",
+            Stop::NotLoaded => "not loaded",
+            Stop::Loaded => "loaded",
+            Stop::AnotherChunk => "another chunk",
+            Stop::TooLarge => "too large",
         }
     }
 }
@@ -152,6 +165,15 @@ impl From<PlanError> for Stop {
         match error {
             PlanError::Limit => Stop::Limit,
             PlanError::Memory => Stop::Memory,
+        }
+    }
+}
+
+impl From<LayError> for Stop {
+    fn from(error: LayError) -> Stop {
+        match error {
+            LayError::TooLarge => Stop::TooLarge,
+            LayError::Memory => Stop::Memory,
         }
     }
 }

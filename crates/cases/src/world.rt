@@ -14,6 +14,8 @@ pub(crate) struct World {
     pub(crate) names: Names,
     /// The text that was made last.
     pub(crate) it: Vec<u8>,
+    /// The blocks that are held.
+    pub(crate) held: Vec<Vec<u8>>,
     /// What is answered on a line, where it isn't `done`.
     pub(crate) answer: Vec<u8>,
     /// What is printed.
@@ -27,6 +29,7 @@ impl World {
             alloc,
             names: Names::none(alloc),
             it: Vec::new(alloc),
+            held: Vec::new(alloc),
             answer: Vec::new(alloc),
             told: Vec::new(alloc),
         }
