@@ -1,5 +1,6 @@
 //! Cases: of each line what is answered, and whether it is what is wanted.
 
+use crate::answers::{answer as print_answer, path, place};
 use crate::blocks::{change, hold, look, spot, tree};
 use crate::certificates::certificate;
 use crate::directories::directory;
@@ -7,6 +8,7 @@ use crate::errors::error;
 use crate::files::file;
 use crate::frames::frame;
 use crate::i_tables::i_table;
+use crate::lines::{batch, line, split};
 use crate::lists::{list, operation};
 use crate::names::push;
 use crate::plans::plan;
@@ -66,6 +68,19 @@ fn forget(world: &mut World) -> Result<(), Stop> {
     Ok(())
 }
 
+/// What is answered to the words after a verb of commands.
+fn command_answer(world: &mut World, verb: &str, words: &mut Words<'_>) -> Result<(), Stop> {
+    match verb {
+        "answer" => print_answer(world, words),
+        "path" => path(world, words),
+        "place" => place(world, words),
+        "line" => line(world, words),
+        "batch" => batch(world, words),
+        "split" => split(world, words),
+        _ => Err(Stop::Word),
+    }
+}
+
 /// What is answered to the words after a verb of rules.
 fn rule_answer(world: &mut World, verb: &str, words: &mut Words<'_>) -> Result<(), Stop> {
     match verb {
@@ -79,7 +94,7 @@ fn rule_answer(world: &mut World, verb: &str, words: &mut Words<'_>) -> Result<(
         "change" => change(world, words),
         "i_table" => i_table(world, words),
         "file" => file(world, words),
-        _ => Err(Stop::Word),
+        _ => command_answer(world, verb, words),
     }
 }
 

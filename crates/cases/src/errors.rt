@@ -3,12 +3,16 @@
 use crate::stop::Stop;
 use crate::words::{Words, found};
 use crate::world::World;
+use commands::Refusal;
+use connection::{ConnectionFault, WriteFault};
 use directory::DirError;
+use file_commands::LineError;
 use itable::LayError;
 use layout::{Digest, Memory, Principal, ReadError};
 use principals::TableError;
 use reply_rules::Rule;
 use std::fmt::Display;
+use transport::TransportError;
 use tree_parts::{ApplyError, Spot};
 use version_order::PlanError;
 use wire::FrameError;
@@ -48,7 +52,32 @@ static PLANNING: [PlanError; 2] = [PlanError::Limit, PlanError::Memory];
 
 static FRAMING: [FrameError; 2] = [FrameError::Length, FrameError::Memory];
 
-static RULES: [Rule; 15] = [
+pub(crate) static REFUSALS: [Refusal; 12] = [
+    Refusal::NoPath,
+    Refusal::There,
+    Refusal::NotEmpty,
+    Refusal::NoNumber,
+    Refusal::NoLeaf,
+    Refusal::NoKey,
+    Refusal::TooLarge,
+    Refusal::Device,
+    Refusal::Foreign,
+    Refusal::Damaged,
+    Refusal::Cut,
+    Refusal::Memory,
+];
+
+static CARRYING: [TransportError; 3] = [
+    TransportError::Fault,
+    TransportError::NoFrame,
+    TransportError::Memory,
+];
+
+static CONNECTING: [ConnectionFault; 1] = [ConnectionFault];
+
+static WRITING: [WriteFault; 1] = [WriteFault];
+
+pub(crate) static RULES: [Rule; 15] = [
     Rule::Form,
     Rule::Lists,
     Rule::OwnLast,
@@ -100,6 +129,15 @@ fn say_applying(world: &mut World, number: u32) -> Result<(), Stop> {
     }
 }
 
+/// Says what an error of command lines prints.
+fn say_commanding(world: &mut World, number: u32) -> Result<(), Stop> {
+    match number {
+        0 => world.show(LineError::Key),
+        1 => world.show(LineError::Memory),
+        _ => Err(Stop::Word),
+    }
+}
+
 /// What an error prints.
 pub(crate) fn error(world: &mut World, words: &mut Words<'_>) -> Result<(), Stop> {
     let kind = words.word()?;
@@ -113,6 +151,11 @@ pub(crate) fn error(world: &mut World, words: &mut Words<'_>) -> Result<(), Stop
         "planning" => say(world, &PLANNING, number),
         "framing" => say(world, &FRAMING, number),
         "rule" => say_rule(world, number),
+        "refusal" => say(world, &REFUSALS, number),
+        "carrying" => say(world, &CARRYING, number),
+        "connecting" => say(world, &CONNECTING, number),
+        "writing" => say(world, &WRITING, number),
+        "commanding" => say_commanding(world, number),
         "applying" => say_applying(world, number),
         _ => Err(Stop::Word),
     }

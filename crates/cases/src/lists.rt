@@ -1,16 +1,17 @@
-//! Replies that are made of operations, each of which is told by its parts: the first rule on the lists that they break.
+//! Replies that are made of operations, each of which is told by its parts: the first rule on the lists that they
+//! break.
 //!
-//! A line has, with `|` between them, the operations whose structures are shown; those that are pending, of which the last
-//! is the own one; and all operations of the line, in the order of their placing. They name one another by their places
-//! in it.
+//! A line has, with `|` between them, the operations whose structures are shown; those that are pending, of which the
+//! last is the own one; and all operations of the line, in the order of their placing. They name one another by their
+//! places in it.
 //!
 //! An operation has a name, by which its parts were told before, and after it, with `;` before each, those of its parts
-//! that are others: the `user` and the `number` of the plan, and the `signer` and the number `signed` of the certificate
-//! where these are others; the operation whose structure the certificate names `last`, of which `-` is none, and `?` what
-//! nobody made; the versions that the vector `counts`, each after its principal; the operations of which the plan has
-//! `entries`, ascending by user, of which `?` is user 1's first one with a plan of nobody's; `changes g`, where the
-//! certificate changes group 64; and `another`, where the plan names another certificate. Each number has one digit, and
-//! `g` is group 64.
+//! that are others: the `user` and the `number` of the plan, and the `signer` and the number `signed` of the
+//! certificate where these are others; the operation whose structure the certificate names `last`, of which `-` is
+//! none, and `?` what nobody made; the versions that the vector `counts`, each after its principal; the operations of
+//! which the plan has `entries`, ascending by user, of which `?` is user 1's first one with a plan of nobody's;
+//! `changes g`, where the certificate changes group 64; and `another`, where the plan names another certificate. Each
+//! number has one digit, and `g` is group 64.
 
 use crate::names::{push, two_bytes};
 use crate::stop::Stop;

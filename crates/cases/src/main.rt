@@ -2,6 +2,7 @@
 //! wanted, and how many cases each file has.
 #![tactic(auto)]
 
+mod answers;
 mod blocks;
 mod case;
 mod certificates;
@@ -10,6 +11,7 @@ mod errors;
 mod files;
 mod frames;
 mod i_tables;
+mod lines;
 mod lists;
 mod names;
 mod plans;

@@ -64,6 +64,12 @@ pub(crate) enum Stop {
     AnotherChunk,
     /// A file has more bytes than a file may have.
     TooLarge,
+    /// What a writer that fails gets isn't a beginning of what is printed.
+    NotCut,
+    /// A path has another name behind its last one.
+    AnotherName,
+    /// A line would go on, for a shell.
+    Unclosed,
 }
 
 impl Stop {
@@ -97,6 +103,9 @@ impl Stop {
             Stop::Loaded => "loaded",
             Stop::AnotherChunk => "another chunk",
             Stop::TooLarge => "too large",
+            Stop::NotCut => "a writer that fails gets something else",
+            Stop::AnotherName => "another name",
+            Stop::Unclosed => "unclosed",
         }
     }
 }
