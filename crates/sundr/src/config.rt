@@ -1,13 +1,11 @@
 //! What the file `config` of a user's folder says.
 
-use crate::folder::{open_there, read_first};
+use crate::folder::read_most;
+use crate::hindrance::{FolderFile, Hindrance};
+use commands::Refusal;
 use file_commands::{SplitError, split_words};
 use layout::put_in;
-use std::alloc::{AllocError, Global};
-use std::io::{self, ErrorKind};
-
-/// The name of the file.
-const CONFIG: &str = "config";
+use std::alloc::Global;
 
 /// How many bytes it has at most.
 const CONFIG_SIZE: usize = 4096;
@@ -27,14 +25,6 @@ pub(crate) enum ConfigFault {
 }
 
 impl ConfigFault {
-    /// What a fault of the system at the file is.
-    fn of(fault: &io::Error) -> ConfigFault {
-        match fault.kind() {
-            ErrorKind::OutOfMemory => ConfigFault::Memory,
-            _ => ConfigFault::Unread,
-        }
-    }
-
     /// What is told of it.
     pub(crate) fn words(self) -> &'static str {
         match self {
@@ -44,12 +34,6 @@ impl ConfigFault {
             }
             ConfigFault::Line => "error: the file config in DIR has a line that isn't: server ADDR",
         }
-    }
-}
-
-impl From<AllocError> for ConfigFault {
-    fn from(_e: AllocError) -> ConfigFault {
-        ConfigFault::Memory
     }
 }
 
@@ -86,23 +70,19 @@ fn server_in(alloc: Global, text: &str) -> Result<Option<String>, ConfigFault> {
     Ok(server)
 }
 
-/// What the file at a path holds; None where there is none.
-fn read_text(rt: &HostRuntime, path: &str) -> Result<Option<Vec<u8>>, ConfigFault> {
-    let there = open_there(rt, path).map_err(|fault| ConfigFault::of(&fault))?;
-    let Some(file) = there else {
-        return Ok(None);
-    };
-    match read_first(rt, file, CONFIG_SIZE as u64 + 1) {
-        Ok(text) if text.len() <= CONFIG_SIZE => Ok(Some(text)),
-        Ok(_) => Err(ConfigFault::Unread),
-        Err(fault) => Err(ConfigFault::of(&fault)),
+/// What the file of a folder holds; None where there is none.
+fn read_text(rt: &HostRuntime, folder: &str) -> Result<Option<Vec<u8>>, ConfigFault> {
+    match read_most(rt, folder, FolderFile::Config, CONFIG_SIZE as u64 + 1) {
+        Ok(Some(text)) if text.len() > CONFIG_SIZE => Err(ConfigFault::Unread),
+        Ok(text) => Ok(text),
+        Err(Hindrance::Refused(Refusal::Memory)) => Err(ConfigFault::Memory),
+        Err(_) => Err(ConfigFault::Unread),
     }
 }
 
 /// The server's address that the file of a folder names, if there is one that does.
 pub(crate) fn server_of(rt: &HostRuntime, folder: &str) -> Result<Option<String>, ConfigFault> {
-    let path = format!(in rt.alloc(); "{folder}/{CONFIG}")?;
-    let Some(text) = read_text(rt, &path)? else {
+    let Some(text) = read_text(rt, folder)? else {
         return Ok(None);
     };
     match std::str::from_utf8(&text) {

@@ -83,7 +83,12 @@ fn value_of(rt: &HostRuntime, variable: &str) -> io::Result<Option<String>> {
 
 /// Whether an option can be put behind the program's name, since no word gives it.
 fn lacks(words: &[String], option: &str) -> bool {
-    !words.is_empty() && !words.iter().any(|word| gives(word, option))
+    for word in words {
+        if gives(word, option) {
+            return false;
+        }
+    }
+    !words.is_empty()
 }
 
 /// Puts an option behind the program's name. It is one word with its value, so that this is taken for no other option,
@@ -145,9 +150,11 @@ pub(crate) fn add_config(rt: &HostRuntime, words: &mut Vec<String>) -> Result<()
     if !lacks(words, SERVER) {
         return Ok(());
     }
-    let server = server_named(rt, words)?;
-    if let Some(server) = server {
-        put(rt.alloc(), words, SERVER, &server)?;
+    let Some(server) = server_named(rt, words)? else {
+        return Ok(());
+    };
+    match put(rt.alloc(), words, SERVER, &server) {
+        Ok(()) => Ok(()),
+        Err(_) => Err(ConfigFault::Memory),
     }
-    Ok(())
 }

@@ -1,8 +1,8 @@
 //! What a user's folder has: the keys, the user's number, and the files of the client's ledgers and journal; and the
 //! file that is put.
 
-use crate::hindrance::{FileFault, FolderFile, Hindrance};
-use crate::opening::{check_no_links, open_to_write};
+use crate::hindrance::{At, FileFault, FolderFile, Hindrance};
+use crate::opening::{check_no_links, make, open_to_write};
 use crate::place::check_files;
 use commands::Refusal;
 use drawn_key::{LEDGER_SIZE, kept_key};
@@ -15,26 +15,17 @@ use lms_sign::{
     ID_SIZE, KEPT_SIZE, KEY_SIZE, PrivateKey, PublicKey, SEED_SIZE, SIGNATURE_SIZE, verify,
 };
 use std::alloc::{AllocError, Global};
-use std::fs::{self, File, OpenOptions, TryLockError};
+use std::fs::{self, File, Metadata, TryLockError};
 use std::io::{self, ErrorKind, Read, Write};
-use std::os::unix::fs::{MetadataExt, OpenOptionsExt};
+use std::os::unix::fs::MetadataExt;
 
 /// How much is read of the file of a user's number: more than a number and a newline have.
 const USER_SIZE: u64 = 8;
 
-/// The file of a ledger.
-const LEDGER: &str = "ledger";
-
-/// The file of the keys of the leaves, so that a key need not be drawn each time.
-const LEAVES: &str = "leaves";
-
 /// How many keys a user has at most.
 pub(crate) const MOST_KEYS: u8 = 16;
 
-/// The file of blocks that were got or stored before, so that they need not be asked for again.
-const BLOCKS: &str = "blocks";
-
-/// How many bytes it has at most: a tag and a count; of each block its digest, its size and its bytes.
+/// How many bytes the file of kept blocks has at most: a tag and a count; of each block its digest, its size and its bytes.
 const BLOCKS_SIZE: usize = 6 + MOST_BLOCKS * (34 + MOST_BYTES);
 
 /// How many bytes a record of a journal has before its text: its gate, its kind, and the text's size.
@@ -48,7 +39,10 @@ const JOURNAL_SIZE: u64 = 1024 * MOST_KEYS as u64 * 20_480;
 const OPEN: u8 = 1;
 
 /// The kind of a record that has a certificate.
-const CERTIFICATE: u8 = 1;
+pub(crate) const CERTIFICATE: u8 = 1;
+
+/// How much is read of a file of the system that is put: one byte more than a file may have.
+pub(crate) const CONTENT_SIZE: u64 = FILE_SIZE as u64 + 1;
 
 /// The mode of a file that its owner alone reads and writes.
 pub(crate) const OWNERS_ALONE: u32 = 0o600;
@@ -71,52 +65,9 @@ pub(crate) struct Keys {
     pub(crate) pinned: PublicKey,
 }
 
-/// What a fault of the system is told as: want of memory as that, and any other as what it hinders.
-pub(crate) fn hindrance_of(fault: &io::Error, other: Hindrance) -> Hindrance {
-    match fault.kind() {
-        ErrorKind::OutOfMemory => Hindrance::Refused(Refusal::Memory),
-        _ => other,
-    }
-}
-
-/// What a fault of the system at another file of the folder than those is told as.
-pub(crate) fn device_hindrance(file: FolderFile, fault: &io::Error) -> Hindrance {
-    let other = Hindrance::OfFile(Refusal::Device, file, FileFault::of(fault));
-    hindrance_of(fault, other)
-}
-
-/// What a fault of the system at the seed or at user 0's public key is told as, and what one that is too short.
-fn key_hindrance(file: FolderFile, short: FileFault, fault: &io::Error) -> Hindrance {
-    let at_fault = match fault.kind() {
-        ErrorKind::UnexpectedEof => short,
-        ErrorKind::NotFound => FileFault::Unmade,
-        _ => FileFault::of(fault),
-    };
-    hindrance_of(fault, Hindrance::NoKeys(file, at_fault))
-}
-
-/// What a fault of the system at a file that is named is told as.
-pub(crate) fn content_hindrance(fault: &io::Error) -> Hindrance {
-    hindrance_of(fault, Hindrance::NoFile(FileFault::of(fault)))
-}
-
-/// The path of a name in a folder.
-fn path_in(alloc: Global, folder: &str, name: &str) -> Result<String, AllocError> {
-    format!(in alloc; "{folder}/{name}")
-}
-
 /// The path of a file of a user's folder.
 pub(crate) fn path_of(alloc: Global, folder: &str, file: FolderFile) -> Result<String, AllocError> {
     format!(in alloc; "{folder}/{file}")
-}
-
-/// The name of a file that the key of a number has beside its seed.
-fn name_of(alloc: Global, name: &str, number: u8) -> Result<String, AllocError> {
-    if number == 0 {
-        format!(in alloc; "{name}")
-    } else {
-        format!(in alloc; "{name}.{number}")
-    }
 }
 
 /// A file of the system, if there is one.
@@ -144,46 +95,41 @@ fn read_last(file: &mut File, bytes: &mut [u8]) -> Option<()> {
     }
 }
 
-/// What a fault of the system at a seed is told as.
-fn seed_hindrance(number: u8, fault: &io::Error) -> Hindrance {
-    key_hindrance(FolderFile::Seed(number), FileFault::NoSeed, fault)
-}
-
 /// The file of a seed, if there is one. One that others than its owner may use is refused.
 fn open_seed(rt: &HostRuntime, folder: &str, number: u8) -> Result<Option<File>, Hindrance> {
-    let path = path_of(rt.alloc(), folder, FolderFile::Seed(number))?;
-    let there = open_there(rt, &path).map_err(|fault| seed_hindrance(number, &fault))?;
-    let Some(file) = there else {
+    let seed = FolderFile::Seed(number);
+    let at = At::Key(seed, FileFault::NoSeed);
+    let path = path_of(rt.alloc(), folder, seed)?;
+    let Some(file) = at.given(open_there(rt, &path))? else {
         return Ok(None);
     };
-    let found = file
-        .metadata()
-        .map_err(|fault| seed_hindrance(number, &fault))?;
-    if found.mode() & FOR_OTHERS != 0 {
-        return Err(Hindrance::NoKeys(FolderFile::Seed(number), FileFault::TooOpen));
+    match at.given(file.metadata()) {
+        Ok(found) if found.mode() & FOR_OTHERS == 0 => Ok(Some(file)),
+        Ok(_) => Err(Hindrance::NoKeys(seed, FileFault::TooOpen)),
+        Err(hindrance) => Err(hindrance),
     }
-    Ok(Some(file))
 }
 
 /// The seed and the identifier of the key of a number in a user's folder, if they are there.
 fn read_seed(rt: &HostRuntime, folder: &str, number: u8) -> Result<Option<Seed>, Hindrance> {
+    let at = At::Key(FolderFile::Seed(number), FileFault::NoSeed);
     let (mut seed, mut id) = ([0; SEED_SIZE], [0; ID_SIZE]);
     let Some(mut file) = open_seed(rt, folder, number)? else {
         return Ok(None);
     };
-    file.read_exact(&mut seed)
-        .map_err(|fault| seed_hindrance(number, &fault))?;
-    read_last(&mut file, &mut id).ok_or(Hindrance::NoKeys(
-        FolderFile::Seed(number),
-        FileFault::NoSeed,
-    ))?;
-    Ok(Some(Seed { number, seed, id }))
+    at.given(file.read_exact(&mut seed))?;
+    match read_last(&mut file, &mut id) {
+        Some(()) => Ok(Some(Seed { number, seed, id })),
+        None => Err(Hindrance::NoKeys(FolderFile::Seed(number), FileFault::NoSeed)),
+    }
 }
 
 /// Refuses a seed whose key has the identifier of one before it: leaves of the two would sign with one another's.
 fn check_identifier(seeds: &[Seed], seed: &Seed) -> Result<(), Hindrance> {
-    if seeds.iter().any(|before| before.id == seed.id) {
-        return Err(Hindrance::NoKeys(FolderFile::Seed(seed.number), FileFault::Twin));
+    for before in seeds {
+        if before.id == seed.id {
+            return Err(Hindrance::NoKeys(FolderFile::Seed(seed.number), FileFault::Twin));
+        }
     }
     Ok(())
 }
@@ -215,22 +161,17 @@ pub(crate) fn read_seeds(
     Ok(seeds)
 }
 
-/// What is told of what isn't user 0's public key.
-fn no_super_key() -> Hindrance {
-    Hindrance::NoKeys(FolderFile::SuperKey, FileFault::NoKey)
-}
-
 /// User 0's public key in a user's folder.
 fn read_pinned(rt: &HostRuntime, folder: &str) -> Result<PublicKey, Hindrance> {
+    let at = At::Key(FolderFile::SuperKey, FileFault::NoKey);
     let path = path_of(rt.alloc(), folder, FolderFile::SuperKey)?;
     let mut bytes = [0; KEY_SIZE];
-    let mut file = File::open(rt, &path).map_err(|fault| key_hindrance(
-        FolderFile::SuperKey,
-        FileFault::NoKey,
-        &fault,
-    ))?;
-    read_last(&mut file, &mut bytes).ok_or(no_super_key())?;
-    PublicKey::from_bytes(bytes).ok_or(no_super_key())
+    let mut file = at.given(File::open(rt, &path))?;
+    let key = match read_last(&mut file, &mut bytes) {
+        Some(()) => PublicKey::from_bytes(bytes),
+        None => None,
+    };
+    key.ok_or(Hindrance::NoKeys(FolderFile::SuperKey, FileFault::NoKey))
 }
 
 /// What a user's folder has of keys.
@@ -263,7 +204,7 @@ fn first_signed(records: &[u8]) -> Option<(Signed<'_>, &[u8])> {
 
 /// The text that was signed last by a journal, with its signature, or the last one of a kind that is said; nothing where
 /// it has none.
-fn last_of(journal: &[u8], wanted: Option<u8>) -> &[u8] {
+pub(crate) fn last_signed(journal: &[u8], wanted: Option<u8>) -> &[u8] {
     let (mut rest, mut last) = (journal, &journal[..0]);
     for _ in 0..journal.len() {
         match first_signed(rest) {
@@ -279,36 +220,16 @@ fn last_of(journal: &[u8], wanted: Option<u8>) -> &[u8] {
     last
 }
 
-/// The text that was signed last by a journal, with its signature; nothing where it has none.
-pub(crate) fn last_signed(journal: &[u8]) -> &[u8] {
-    last_of(journal, None)
-}
-
-/// The certificate that was signed last by a journal, with its signature; nothing where it has none.
-pub(crate) fn last_declared(journal: &[u8]) -> &[u8] {
-    last_of(journal, Some(CERTIFICATE))
-}
-
-/// The number of the leaf that a signature is of, which it begins with.
-fn leaf_of(signature: &[u8]) -> Option<usize> {
-    match signature {
-        [a, b, c, d, ..] => Some(u32::from_be_bytes([*a, *b, *c, *d]) as usize),
-        _ => None,
-    }
-}
-
-/// Whether a leaf is free by a ledger.
-fn is_free(ledger: &[u8], leaf: usize) -> bool {
-    let marks = &ledger[KEY_SIZE.min(ledger.len())..];
-    matches!(marks.get(leaf), Some(0))
-}
-
-/// Whether a leaf is free by the ledger of a key that signed this text with it.
+/// Whether a leaf is free by the ledger of a key that signed this text with it. A signature begins with its leaf's number.
 fn forgets(ledger: &[u8], key: &PublicKey, signed: &[u8]) -> bool {
     let (text, signature) = signed.split_at(signed.len().saturating_sub(SIGNATURE_SIZE));
-    match leaf_of(signature) {
-        Some(leaf) => is_free(ledger, leaf) && verify(key, text, signature),
-        None => false,
+    let [a, b, c, d, ..] = signature else {
+        return false;
+    };
+    let leaf = u32::from_be_bytes([*a, *b, *c, *d]) as usize;
+    match ledger.get(KEY_SIZE.saturating_add(leaf)) {
+        Some(0) => verify(key, text, signature),
+        _ => false,
     }
 }
 
@@ -332,20 +253,25 @@ pub(crate) fn check_ledger(
     Err(Hindrance::OfFile(Refusal::Foreign, FolderFile::Ledger(number), fault))
 }
 
-/// The bytes of a file of a key beside its seed, if it can be read and has just so many.
-fn read_sized(
+/// The first bytes of a file of a folder, at most so many, if there is one.
+pub(crate) fn read_most(
     rt: &HostRuntime,
     folder: &str,
-    name: &str,
-    number: u8,
-    size: usize,
-) -> Option<Vec<u8>> {
-    let name = name_of(rt.alloc(), name, number).ok()?;
-    let path = path_in(rt.alloc(), folder, &name).ok()?;
-    let mut bytes = vec![in rt.alloc(); 0u8; size].ok()?;
-    let mut file = File::open(rt, &path).ok()?;
-    read_last(&mut file, &mut bytes)?;
-    Some(bytes)
+    file: FolderFile,
+    size: u64,
+) -> Result<Option<Vec<u8>>, Hindrance> {
+    match open_present(rt, folder, file)? {
+        Some(opened) => Ok(Some(At::File(file).given(read_first(rt, opened, size))?)),
+        None => Ok(None),
+    }
+}
+
+/// The bytes of a file of a folder, if it can be read and has just so many.
+fn read_sized(rt: &HostRuntime, folder: &str, file: FolderFile, size: usize) -> Option<Vec<u8>> {
+    match read_most(rt, folder, file, (size as u64).saturating_add(1)) {
+        Ok(Some(bytes)) if bytes.len() == size => Some(bytes),
+        _ => None,
+    }
 }
 
 /// The key of a seed, if it can be made of what was kept of its leaves: it has to be the key of its ledger, and the next
@@ -355,33 +281,29 @@ pub(crate) fn read_kept(
     folder: &str,
     seed: &Seed,
 ) -> Result<Option<PrivateKey<Global>>, Memory> {
-    let Some(ledger) = read_sized(rt, folder, LEDGER, seed.number, LEDGER_SIZE) else {
+    let file = FolderFile::Ledger(seed.number);
+    let Some(ledger) = read_sized(rt, folder, file, LEDGER_SIZE) else {
         return Ok(None);
     };
-    let Some(kept) = read_sized(rt, folder, LEAVES, seed.number, KEPT_SIZE) else {
+    let Some(kept) = read_sized(rt, folder, FolderFile::Leaves(seed.number), KEPT_SIZE) else {
         return Ok(None);
     };
     kept_key(rt.alloc(), seed.seed, seed.id, &ledger, &kept)
 }
 
-/// A new file of the owner's alone, with these bytes. No link is followed.
-fn written(rt: &HostRuntime, path: &str, bytes: &[u8]) -> io::Result<File> {
-    let mut file = OpenOptions::new()
-        .write(true)
-        .create_new(true)
-        .mode(OWNERS_ALONE)
-        .open(rt, path)?;
-    file.write_all(bytes)?;
-    Ok(file)
+/// Makes a new file of the owner's alone with these bytes. No link is followed.
+fn write_new(rt: &HostRuntime, path: &str, bytes: &[u8]) -> io::Result<()> {
+    let mut file = make(rt, path, OWNERS_ALONE)?;
+    file.write_all(bytes)
 }
 
 /// Writes bytes into a file beside one of a folder, and moves it into its place, if that can be done.
-fn put_in_place(rt: &HostRuntime, folder: &str, name: &str, bytes: &[u8]) -> Option<()> {
-    let beside = format!(in rt.alloc(); "{folder}/{name}.new").ok()?;
-    let path = path_in(rt.alloc(), folder, name).ok()?;
+fn put_in_place(rt: &HostRuntime, folder: &str, file: FolderFile, bytes: &[u8]) -> Option<()> {
+    let path = path_of(rt.alloc(), folder, file).ok()?;
+    let beside = format!(in rt.alloc(); "{path}.new").ok()?;
     // What a command left that was stopped.
     let _ = fs::remove_file(rt, &beside);
-    let _file = written(rt, &beside, bytes).ok()?;
+    write_new(rt, &beside, bytes).ok()?;
     fs::rename(rt, &beside, &path).ok()
 }
 
@@ -393,15 +315,12 @@ pub(crate) fn keep_leaves(
     key: &PrivateKey<Global>,
 ) -> Option<()> {
     let kept = key.kept_leaves(rt.alloc()).ok()?;
-    let name = name_of(rt.alloc(), LEAVES, number).ok()?;
-    put_in_place(rt, folder, &name, &kept)
+    put_in_place(rt, folder, FolderFile::Leaves(number), &kept)
 }
 
-/// The text of the blocks that were kept, or nothing where none can be read.
+/// The text of the blocks that were kept, if one can be read.
 fn read_blocks_text(rt: &HostRuntime, folder: &str) -> Option<Vec<u8>> {
-    let path = path_in(rt.alloc(), folder, BLOCKS).ok()?;
-    let file = File::open(rt, &path).ok()?;
-    read_first(rt, file, BLOCKS_SIZE as u64 + 1).ok()
+    read_most(rt, folder, FolderFile::Blocks, BLOCKS_SIZE as u64 + 1).ok()?
 }
 
 /// The blocks that were kept, if their file is one of them. Each is compared with its digest when it is asked for.
@@ -422,17 +341,16 @@ pub(crate) fn keep_blocks(
     blocks: &KeptBlocks<Global>,
 ) -> Option<()> {
     let text = blocks.text(rt.alloc()).ok()?;
-    if read_blocks_text(rt, folder).is_some_and(|before| before == text) {
-        return Some(());
+    match read_blocks_text(rt, folder) {
+        Some(before) if before == text => Some(()),
+        _ => put_in_place(rt, folder, FolderFile::Blocks, &text),
     }
-    put_in_place(rt, folder, BLOCKS, &text)
 }
 
-/// The bytes of a file of the system, of which one more than a file may have is enough.
-pub(crate) fn read_content(rt: &HostRuntime, path: &str) -> Result<Vec<u8>, Hindrance> {
-    let file = File::open(rt, path).map_err(|fault| content_hindrance(&fault))?;
-    let content = read_first(rt, file, u64::from(FILE_SIZE) + 1);
-    content.map_err(|fault| content_hindrance(&fault))
+/// The first bytes of a file of the system that is named, at most so many.
+pub(crate) fn read_named(rt: &HostRuntime, path: &str, size: u64) -> Result<Vec<u8>, Hindrance> {
+    let file = At::Named.given(File::open(rt, path))?;
+    At::Named.given(read_first(rt, file, size))
 }
 
 /// The user whose number a text is.
@@ -441,25 +359,27 @@ fn user_of(text: &[u8]) -> Option<User> {
     User::new(text.trim_end().parse::<u8>().ok()?)
 }
 
-/// The user whose folder it is, if it tells that.
-fn read_user(rt: &HostRuntime, folder: &str) -> Result<Option<User>, Hindrance> {
-    let Some(file) = open_present(rt, folder, FolderFile::User)? else {
-        return Ok(None);
+/// Refuses a folder that tells that it is another user's.
+pub(crate) fn check_user(rt: &HostRuntime, folder: &str, user: User) -> Result<(), Hindrance> {
+    let file = FolderFile::User;
+    let Some(text) = read_most(rt, folder, file, USER_SIZE)? else {
+        return Ok(());
     };
-    let text = read_first(rt, file, USER_SIZE);
-    let text = text.map_err(|fault| device_hindrance(FolderFile::User, &fault))?;
     match user_of(&text) {
-        Some(user) => Ok(Some(user)),
-        None => Err(Hindrance::OfFile(Refusal::Foreign, FolderFile::User, FileFault::NoNumber)),
+        Some(own) if own.get() == user.get() => Ok(()),
+        Some(own) => Err(Hindrance::OfUser(own)),
+        None => Err(Hindrance::OfFile(Refusal::Foreign, file, FileFault::NoNumber)),
     }
 }
 
-/// Refuses a folder that tells that it is another user's.
-pub(crate) fn check_user(rt: &HostRuntime, folder: &str, user: User) -> Result<(), Hindrance> {
-    match read_user(rt, folder)? {
-        Some(own) if own.get() != user.get() => Err(Hindrance::OfUser(own)),
-        _ => Ok(()),
-    }
+/// What the system tells of a file of a folder, if there is one.
+pub(crate) fn found_in(
+    rt: &HostRuntime,
+    folder: &str,
+    file: FolderFile,
+) -> Result<Option<Metadata>, AllocError> {
+    let path = path_of(rt.alloc(), folder, file)?;
+    Ok(fs::metadata(rt, &path).ok())
 }
 
 /// Whether there is a file of a folder that has bytes, or something that is no file.
@@ -468,8 +388,10 @@ pub(crate) fn has_bytes(
     folder: &str,
     file: FolderFile,
 ) -> Result<bool, AllocError> {
-    let path = path_of(rt.alloc(), folder, file)?;
-    Ok(fs::metadata(rt, &path).is_ok_and(|found| !found.is_file() || found.len() != 0))
+    match found_in(rt, folder, file)? {
+        Some(found) => Ok(!found.is_file() || found.len() != 0),
+        None => Ok(false),
+    }
 }
 
 /// Refuses a folder whose first ledger would be made beside a journal that has something in it: leaves that were used
@@ -490,9 +412,8 @@ fn check_size(
     most: u64,
     refusal: Refusal,
 ) -> Result<(), Hindrance> {
-    let path = path_of(rt.alloc(), folder, file)?;
-    match fs::metadata(rt, &path) {
-        Ok(found) if found.is_file() && found.len() > most => {
+    match found_in(rt, folder, file)? {
+        Some(found) if found.is_file() && found.len() > most => {
             Err(Hindrance::OfFile(refusal, file, FileFault::TooLong))
         }
         _ => Ok(()),
@@ -554,11 +475,13 @@ fn lock_ledger(rt: &HostRuntime, folder: &str, number: u8) -> Result<File, Hindr
 
 /// Refuses a folder that got a further key since its seeds were read: from then on that one is the newest.
 fn check_newest(rt: &HostRuntime, folder: &str, user: User, count: u8) -> Result<(), Hindrance> {
-    let next = path_of(rt.alloc(), folder, FolderFile::Seed(count))?;
-    if count < most_seeds(user) && fs::metadata(rt, &next).is_ok() {
-        return Err(Hindrance::OfFile(Refusal::Device, FolderFile::Seed(count), FileFault::InUse));
+    let next = FolderFile::Seed(count);
+    match found_in(rt, folder, next)? {
+        Some(_) if count < most_seeds(user) => {
+            Err(Hindrance::OfFile(Refusal::Device, next, FileFault::InUse))
+        }
+        _ => Ok(()),
     }
-    Ok(())
 }
 
 /// Locks the files of all ledgers, the first one first: then no other process makes a further key.
@@ -583,7 +506,7 @@ pub(crate) fn open_present(
     file: FolderFile,
 ) -> Result<Option<File>, Hindrance> {
     let path = path_of(rt.alloc(), folder, file)?;
-    open_there(rt, &path).map_err(|fault| device_hindrance(file, &fault))
+    At::File(file).given(open_there(rt, &path))
 }
 
 /// What a file of a folder holds; nothing where there is none.
@@ -592,14 +515,9 @@ pub(crate) fn read_present(
     folder: &str,
     file: FolderFile,
 ) -> Result<Vec<u8>, Hindrance> {
-    let mut text = Vec::new(rt.alloc());
-    let Some(found) = open_present(rt, folder, file)? else {
-        return Ok(text);
-    };
-    let mut found = found;
-    match found.read_to_end(&mut text) {
-        Ok(_) => Ok(text),
-        Err(fault) => Err(device_hindrance(file, &fault)),
+    match read_most(rt, folder, file, u64::MAX)? {
+        Some(text) => Ok(text),
+        None => Ok(Vec::new(rt.alloc())),
     }
 }
 

@@ -7,7 +7,7 @@ ghost use Rattle.transport.specs.Asked.{came};
 use crate::reaching::Contact;
 use directory::{Directory, Target as Place};
 use itable::{Chunk, ChunkNumber, Root};
-use layout::{Digest, Text, put_in};
+use layout::{Digest, INumber, Principal, Text, put_in};
 use std::alloc::{AllocError, Global};
 use transport::{Ahead, Request, Transport, TransportError};
 use wire::{RequestKind, Status, reply_of};
@@ -49,12 +49,24 @@ struct Tables {
 }
 
 impl Tables {
+    /// At which place the root of a principal is remembered, if it is.
+    fn root_at(&self, principal: Principal) -> Option<usize> {
+        for (at, root) in self.roots.iter().enumerate() {
+            if root.principal() == principal {
+                return Some(at);
+            }
+        }
+        None
+    }
+
     /// Remembers a root in the place of the one before of its principal.
     fn keep_root(&mut self, root: Root<Global>) -> Result<(), AllocError> {
-        let mut roots = self.roots.iter_mut();
-        match roots.find(|before| before.principal() == root.principal()) {
-            Some(before) => put_in(before, root),
-            None => self.roots.push(root)?,
+        let Some(at) = self.root_at(root.principal()) else {
+            self.roots.push(root)?;
+            return Ok(());
+        };
+        if let Some(before) = self.roots.get_mut(at) {
+            put_in(before, root);
         }
         Ok(())
     }
@@ -79,30 +91,49 @@ impl Tables {
         }
     }
 
-    /// The digest of a chunk of a principal's table, if its root lists one.
-    fn chunk_of(root: &Root<Global>, number: ChunkNumber) -> Option<Digest> {
-        let listed = root.chunks().iter().find(|it| it.number == number)?;
-        Some(listed.digest)
+    /// The chunk of a digest, if it is remembered.
+    fn chunk(&self, digest: Digest) -> Option<&Chunk<Global>> {
+        for named in &self.chunks {
+            if named.digest == digest {
+                return Some(&named.chunk);
+            }
+        }
+        None
     }
 
     /// What is known of what stands at a place.
     fn known(&self, place: Place) -> Known {
-        let mut roots = self.roots.iter();
-        let Some(root) = roots.find(|root| root.principal() == place.principal) else {
+        let Some(at) = self.root_at(place.principal) else {
             return Known::Unknown;
         };
-        let Some(digest) = Tables::chunk_of(root, ChunkNumber::of(place.i_number)) else {
+        let Some(digest) = chunk_of(self.roots.get(at), ChunkNumber::of(place.i_number)) else {
             return Known::Nothing;
         };
-        let Some(named) = self.chunks.iter().find(|it| it.digest == digest) else {
-            return Known::Chunk(digest);
-        };
-        let mut pairs = named.chunk.pairs().iter();
-        match pairs.find(|pair| pair.i_number == place.i_number) {
-            Some(pair) => Known::Inode(pair.digest),
-            None => Known::Nothing,
+        match self.chunk(digest) {
+            Some(chunk) => inode_in(chunk, place.i_number),
+            None => Known::Chunk(digest),
         }
     }
+}
+
+/// The digest of a chunk of a principal's table, if its root lists one.
+fn chunk_of(root: Option<&Root<Global>>, number: ChunkNumber) -> Option<Digest> {
+    for listed in root?.chunks() {
+        if listed.number == number {
+            return Some(listed.digest);
+        }
+    }
+    None
+}
+
+/// What a chunk tells of what stands at an i-number of it.
+fn inode_in(chunk: &Chunk<Global>, i_number: INumber) -> Known {
+    for pair in chunk.pairs() {
+        if pair.i_number == i_number {
+            return Known::Inode(pair.digest);
+        }
+    }
+    Known::Nothing
 }
 
 /// The places about which it is asked in turn, and the blocks that are asked for about them.
@@ -117,9 +148,19 @@ struct Course {
     passed: usize,
 }
 
+/// At which place a digest is among others, if it is.
+fn place_of(digests: &[Digest], digest: &[u8]) -> Option<usize> {
+    for (place, other) in digests.iter().enumerate() {
+        if other.as_bytes().as_slice() == digest {
+            return Some(place);
+        }
+    }
+    None
+}
+
 /// Puts a digest behind others, unless it is one of them.
 fn add(digests: &mut Vec<Digest>, digest: Digest) -> Result<(), AllocError> {
-    if !digests.iter().any(|before| *before == digest) {
+    if place_of(digests, digest.as_bytes()).is_none() {
         digests.push(digest)?;
     }
     Ok(())
@@ -166,10 +207,7 @@ impl Course {
     /// go of before it is sent.
     fn after(&mut self, digest: &[u8]) -> &[Digest] {
         let left = self.digests.get(self.passed..).unwrap_or_default();
-        self.passed = match left
-            .iter()
-            .position(|it| it.as_bytes().as_slice() == digest)
-        {
+        self.passed = match place_of(left, digest) {
             Some(place) => self.passed.saturating_add(place).saturating_add(1),
             None => self.digests.len(),
         };
@@ -252,7 +290,7 @@ fn next_blocks<'a>(
     course: &'a mut Course,
     digest: &[u8],
 ) -> &'a [Digest] {
-    if let Some(places) = contact.next_places() {
+    if let Some(places) = contact.next.replace(None) {
         put_in(course, Course::new(tables.alloc, places));
     }
     let _ = course.foresee(tables);

@@ -1,12 +1,10 @@
 //! What stands at a path that leads to nothing of the kind that is wanted.
 
-use crate::OwnSession;
-use crate::reaching::Server;
+use crate::asking::Asks;
 use commands::{Answer, Command, Refusal, path_of};
 use directory::Target as Place;
 use file_commands::Wanted;
 use std::alloc::Global;
-use std::net::{Net, TcpStream};
 
 /// What is known of what stands at a path.
 #[derive(Clone, Copy)]
@@ -106,9 +104,8 @@ fn looked_for<'a>(wanted: &Wanted<'a>) -> Option<(&'a str, &'a str)> {
 
 /// What stands at the path of what was answered that there is no such path, in the view of the look that told so. Of the
 /// directory above it the blocks are known already.
-pub(crate) fn found_beside<H: Net<Stream = TcpStream>>(
-    server: &Server<'_, H>,
-    session: &mut OwnSession<'_, H>,
+pub(crate) fn found_beside<S: Asks>(
+    session: &mut S,
     wanted: &Wanted<'_>,
     answer: &Answer<Global>,
 ) -> Found {
@@ -118,8 +115,7 @@ pub(crate) fn found_beside<H: Net<Stream = TcpStream>>(
     let Some((above, name)) = looked_for(wanted) else {
         return Found::Unasked;
     };
-    server.begin();
-    match session.tell(&Command::Ls(above)) {
+    match session.show(&Command::Ls(above)) {
         Answer::Listing(entries) => match entries.get(name.as_bytes()) {
             Some(_) => Found::Something,
             None => Found::Nothing,

@@ -5,10 +5,9 @@ use layout::{Memory, User};
 use std::alloc::{AllocError, AllocFailed};
 use std::fmt;
 use std::io::{self, ErrorKind};
-use thiserror::Error;
 
 /// A file of a user's folder.
-#[derive(Clone, Copy, Debug)]
+#[derive(Clone, Copy)]
 pub(crate) enum FolderFile {
     /// That of the seed of the key of this number, and of its identifier.
     Seed(u8),
@@ -18,33 +17,34 @@ pub(crate) enum FolderFile {
     User,
     /// That of the ledger of the key of this number.
     Ledger(u8),
+    /// That of the keys of the leaves of the key of this number, so that it need not be drawn each time.
+    Leaves(u8),
     /// That of the journal.
     Journal,
     /// That of the place at which the folder was used last.
     Place,
+    /// That of blocks that were got or stored before, so that they need not be asked for again.
+    Blocks,
     /// The one that is there while a command works.
     Working,
+    /// The one that names the server.
+    Config,
 }
 
 impl FolderFile {
-    /// What its name begins with.
-    fn name(self) -> &'static str {
+    /// What its name begins with, and the number of the key whose file it is; 0 of one that isn't a key's.
+    fn name(self) -> (&'static str, u8) {
         match self {
-            FolderFile::Seed(_) => "seed",
-            FolderFile::SuperKey => "super.pub",
-            FolderFile::User => "user",
-            FolderFile::Ledger(_) => "ledger",
-            FolderFile::Journal => "journal",
-            FolderFile::Place => "place",
-            FolderFile::Working => "working",
-        }
-    }
-
-    /// The number of the key whose file it is; 0 of one that isn't a key's.
-    fn number(self) -> u8 {
-        match self {
-            FolderFile::Seed(number) | FolderFile::Ledger(number) => number,
-            _ => 0,
+            FolderFile::Seed(number) => ("seed", number),
+            FolderFile::SuperKey => ("super.pub", 0),
+            FolderFile::User => ("user", 0),
+            FolderFile::Ledger(number) => ("ledger", number),
+            FolderFile::Leaves(number) => ("leaves", number),
+            FolderFile::Journal => ("journal", 0),
+            FolderFile::Place => ("place", 0),
+            FolderFile::Blocks => ("blocks", 0),
+            FolderFile::Working => ("working", 0),
+            FolderFile::Config => ("config", 0),
         }
     }
 }
@@ -52,7 +52,7 @@ impl FolderFile {
 /// Its name in the folder: of a key but the first one with the key's number.
 impl fmt::Display for FolderFile {
     fn fmt<W: fmt::Write>(&self, f: &mut fmt::Formatter<W>) -> fmt::Result {
-        let (name, number) = (self.name(), self.number());
+        let (name, number) = self.name();
         if number == 0 {
             write!(f, "{name}")
         } else {
@@ -112,7 +112,7 @@ const TWIN: &str =
     "has the identifier of a seed before it, so that both would sign with the same leaves: move this file and its ledger out of the folder";
 
 /// What is at fault with a file.
-#[derive(Clone, Copy, Debug)]
+#[derive(Clone, Copy)]
 pub(crate) enum FileFault {
     /// There is none.
     Absent,
@@ -182,8 +182,8 @@ pub(crate) enum FileFault {
 
 impl FileFault {
     /// What a fault of the system is at a file.
-    pub(crate) fn of(fault: &io::Error) -> FileFault {
-        match fault.kind() {
+    fn of(kind: ErrorKind) -> FileFault {
+        match kind {
             ErrorKind::NotFound => FileFault::Absent,
             ErrorKind::PermissionDenied | ErrorKind::ReadOnlyFilesystem => FileFault::Denied,
             ErrorKind::IsADirectory => FileFault::Directory,
@@ -232,7 +232,7 @@ impl FileFault {
 }
 
 /// Why a key isn't renewed.
-#[derive(Clone, Copy, Debug)]
+#[derive(Clone, Copy)]
 pub(crate) enum RenewalFault {
     /// User 0 has one key for good.
     Pinned,
@@ -272,40 +272,38 @@ impl RenewalFault {
 }
 
 /// Why a command isn't begun.
-#[derive(Clone, Copy, Debug, Error)]
+#[derive(Clone, Copy)]
 pub(crate) enum Hindrance {
     /// The folder hasn't the keys that the command needs: this file of it is at fault.
-    #[error("no keys")]
     NoKeys(FolderFile, FileFault),
     /// The file that is to be put can't be read, or the one into which a file is to be written can't be, or the one of
     /// user 0's key of which a folder is to be made.
-    #[error("no file")]
     NoFile(FileFault),
     /// The folder can't be made.
-    #[error("device")]
     NoFolder(FileFault),
     /// What an answer tells too, since this file of the folder is at fault.
-    #[error("{0}")]
     OfFile(Refusal, FolderFile, FileFault),
     /// The folder is this other user's, which is told as a ledger is that is another key's.
-    #[error("foreign")]
     OfUser(User),
     /// What an answer tells too.
-    #[error("{0}")]
     Refused(Refusal),
     /// No further key is made.
-    #[error("no renewal")]
     NotRenewed(RenewalFault),
+    /// What was wanted was told to be at fault: the status to end with.
+    Told(u8),
 }
 
 impl Hindrance {
-    /// What an answer tells too, if that is printed of it.
-    pub(crate) fn refusal(self) -> Option<Refusal> {
+    /// What an answer tells too, if that is printed of it, or else the words that are.
+    pub(crate) fn refusal(self) -> Result<Refusal, &'static str> {
         match self {
-            Hindrance::NoKeys(..) | Hindrance::NoFile(_) | Hindrance::NotRenewed(_) => None,
-            Hindrance::NoFolder(_) => Some(Refusal::Device),
-            Hindrance::OfUser(_) => Some(Refusal::Foreign),
-            Hindrance::OfFile(refusal, ..) | Hindrance::Refused(refusal) => Some(refusal),
+            Hindrance::NoKeys(..) => Err("no keys"),
+            Hindrance::NoFile(_) => Err("no file"),
+            Hindrance::NotRenewed(_) => Err("no renewal"),
+            Hindrance::Told(_) => Err(""),
+            Hindrance::NoFolder(_) => Ok(Refusal::Device),
+            Hindrance::OfUser(_) => Ok(Refusal::Foreign),
+            Hindrance::OfFile(refusal, ..) | Hindrance::Refused(refusal) => Ok(refusal),
         }
     }
 }
@@ -322,14 +320,53 @@ impl From<Memory> for Hindrance {
     }
 }
 
-impl From<RenewalFault> for Hindrance {
-    fn from(fault: RenewalFault) -> Hindrance {
-        Hindrance::NotRenewed(fault)
-    }
-}
-
 impl<T: Drop> From<AllocFailed<T>> for Hindrance {
     fn from(_e: AllocFailed<T>) -> Hindrance {
         Hindrance::Refused(Refusal::Memory)
+    }
+}
+
+/// What the system tells a fault of.
+#[derive(Clone, Copy)]
+pub(crate) enum At {
+    /// Another file of the folder than those of its keys.
+    File(FolderFile),
+    /// The file of a seed, or of user 0's public key; and what one is that is too short.
+    Key(FolderFile, FileFault),
+    /// A file that is named.
+    Named,
+    /// The folder itself.
+    Folder,
+}
+
+impl At {
+    /// What a fault of the system there is told as: want of memory as that, and any other as what it hinders.
+    pub(crate) fn hindrance(self, fault: &io::Error) -> Hindrance {
+        let kind = fault.kind();
+        if kind == ErrorKind::OutOfMemory {
+            return Hindrance::Refused(Refusal::Memory);
+        }
+        let at_fault = FileFault::of(kind);
+        match self {
+            At::File(file) => Hindrance::OfFile(Refusal::Device, file, at_fault),
+            At::Named => Hindrance::NoFile(at_fault),
+            At::Folder if kind == ErrorKind::AlreadyExists => {
+                Hindrance::NoFolder(FileFault::NoDirectory)
+            }
+            At::Folder => Hindrance::NoFolder(at_fault),
+            At::Key(file, short) => match kind {
+                ErrorKind::UnexpectedEof => Hindrance::NoKeys(file, short),
+                ErrorKind::NotFound => Hindrance::NoKeys(file, FileFault::Unmade),
+                _ => Hindrance::NoKeys(file, at_fault),
+            },
+        }
+    }
+
+    /// What the system gave, or what its fault there is told as.
+    pub(crate) fn given<T>(self, given: io::Result<T>) -> Result<T, Hindrance> {
+        match given {
+            Ok(it) => Ok(it),
+            Err(fault) => Err(self.hindrance(&fault)),
+        }
     }
 }

@@ -1,9 +1,8 @@
 //! The making of a user's folder.
 
-use crate::folder::{
-    MOST_KEYS, OWNERS_ALONE, content_hindrance, device_hindrance, hindrance_of, path_of, read_first,
-};
-use crate::hindrance::{FileFault, FolderFile, Hindrance};
+use crate::folder::{MOST_KEYS, OWNERS_ALONE, path_of, read_named};
+use crate::hindrance::{At, FileFault, FolderFile, Hindrance};
+use crate::opening::make;
 use crate::place::new_place;
 use commands::Refusal;
 use drawn_key::{LEDGER_SIZE, drawn_key};
@@ -13,9 +12,9 @@ use layout::{User, digest, let_go};
 use lms_sign::{ID_SIZE, KEY_SIZE, PrivateKey, PublicKey, SEED_SIZE};
 use std::alloc::Global;
 use std::fmt;
-use std::fs::{self, DirBuilder, File, OpenOptions};
+use std::fs::{self, DirBuilder, File};
 use std::io::{self, ErrorKind, Write};
-use std::os::unix::fs::{DirBuilderExt, OpenOptionsExt};
+use std::os::unix::fs::DirBuilderExt;
 use std::path::Path;
 use std::random::RandomSource;
 use std::thread::Threads;
@@ -89,23 +88,6 @@ impl fmt::Display for Digits<'_> {
     }
 }
 
-/// What a fault of the system at a file that is made is told as.
-fn unmade(file: FolderFile, fault: &io::Error) -> Hindrance {
-    match fault.kind() {
-        ErrorKind::AlreadyExists => Hindrance::OfFile(Refusal::There, file, FileFault::Present),
-        _ => device_hindrance(file, fault),
-    }
-}
-
-/// What a fault of the system at the folder itself is told as.
-pub(crate) fn no_folder(fault: &io::Error) -> Hindrance {
-    let at_fault = match fault.kind() {
-        ErrorKind::AlreadyExists => FileFault::NoDirectory,
-        _ => FileFault::of(fault),
-    };
-    hindrance_of(fault, Hindrance::NoFolder(at_fault))
-}
-
 /// The key of a file's bytes: 56 of them, or their digits.
 fn key_of(text: &[u8]) -> Option<PublicKey> {
     match <[u8; KEY_SIZE]>::try_from(text) {
@@ -119,9 +101,7 @@ fn key_of(text: &[u8]) -> Option<PublicKey> {
 
 /// User 0's public key in a file of the system.
 fn read_super_key(rt: &HostRuntime, path: &str) -> Result<PublicKey, Hindrance> {
-    let file = File::open(rt, path).map_err(|fault| content_hindrance(&fault))?;
-    let text = read_first(rt, file, KEY_FILE_SIZE);
-    let text = text.map_err(|fault| content_hindrance(&fault))?;
+    let text = read_named(rt, path, KEY_FILE_SIZE)?;
     key_of(&text).ok_or(Hindrance::NoFile(FileFault::NoKey))
 }
 
@@ -173,18 +153,14 @@ pub(crate) fn key_of_seed<H: Threads + Sync>(
 
 /// Makes the folder where there is none.
 fn make_folder(rt: &HostRuntime, folder: &str) -> Result<(), Hindrance> {
-    let found = fs::metadata(rt, folder);
-    if found.is_ok_and(|found| found.is_dir()) {
-        return Ok(());
+    match fs::metadata(rt, folder) {
+        Ok(found) if found.is_dir() => Ok(()),
+        _ => At::Folder.given(DirBuilder::new().mode(OWNERS_FOLDER).create(rt, folder)),
     }
-    DirBuilder::new()
-        .mode(OWNERS_FOLDER)
-        .create(rt, folder)
-        .map_err(|fault| no_folder(&fault))
 }
 
 /// Writes the bytes of a file that was made, and syncs it.
-fn fill(file: &mut File, bytes: &[u8]) -> io::Result<()> {
+pub(crate) fn fill(file: &mut File, bytes: &[u8]) -> io::Result<()> {
     file.write_all(bytes)?;
     file.sync_all()
 }
@@ -192,16 +168,36 @@ fn fill(file: &mut File, bytes: &[u8]) -> io::Result<()> {
 /// Makes a file of the owner's alone with these bytes, where there is none. Nothing that is there is written over, and
 /// no link is followed.
 pub(crate) fn make_file(rt: &HostRuntime, path: &str, bytes: &[u8]) -> io::Result<()> {
-    let mut file = OpenOptions::new()
-        .write(true)
-        .create_new(true)
-        .mode(OWNERS_ALONE)
-        .open(rt, path)?;
+    let mut file = make(rt, path, OWNERS_ALONE)?;
     let filled = fill(&mut file, bytes);
     if filled.is_err() {
         let _ = fs::remove_file(rt, path);
     }
     filled
+}
+
+/// Moves a file into its place. Where that can't be done, it isn't left.
+fn move_into(rt: &HostRuntime, beside: &str, path: &str) -> io::Result<()> {
+    let moved = fs::rename(rt, beside, path);
+    if moved.is_err() {
+        let _ = fs::remove_file(rt, beside);
+    }
+    moved
+}
+
+/// Makes a file of a folder with these bytes beside its place, and moves it there: it is there whole or as it was.
+pub(crate) fn move_in(
+    rt: &HostRuntime,
+    folder: &str,
+    file: FolderFile,
+    bytes: &[u8],
+) -> io::Result<()> {
+    let path = path_of(rt.alloc(), folder, file)?;
+    let beside = format!(in rt.alloc(); "{path}.new")?;
+    // What a command left that was stopped.
+    let _ = fs::remove_file(rt, &beside);
+    make_file(rt, &beside, bytes)?;
+    move_into(rt, &beside, &path)
 }
 
 /// Syncs a folder, and the one in which it stands.
@@ -237,6 +233,21 @@ fn paths_of(
     Ok(paths)
 }
 
+/// Makes a file of a folder at its path, where there is none.
+fn make_absent(
+    rt: &HostRuntime,
+    path: &str,
+    file: FolderFile,
+    bytes: &[u8],
+) -> Result<(), Hindrance> {
+    match make_file(rt, path, bytes) {
+        Err(fault) if fault.kind() == ErrorKind::AlreadyExists => {
+            Err(Hindrance::OfFile(Refusal::There, file, FileFault::Present))
+        }
+        made => At::File(file).given(made),
+    }
+}
+
 /// Makes these files of a folder at their paths, and syncs it. Where that can't be done, none of them is left.
 fn make_at(
     rt: &HostRuntime,
@@ -245,18 +256,16 @@ fn make_at(
     paths: &[String],
 ) -> Result<(), Hindrance> {
     for (count, ((file, bytes), path)) in files.iter().zip(paths).enumerate() {
-        if let Err(fault) = make_file(rt, path, bytes) {
+        if let Err(hindrance) = make_absent(rt, path, *file, bytes) {
             unmake(rt, paths, count);
-            return Err(unmade(*file, &fault));
+            return Err(hindrance);
         }
     }
-    match sync_folder(rt, folder) {
-        Ok(()) => Ok(()),
-        Err(fault) => {
-            unmake(rt, paths, paths.len());
-            Err(no_folder(&fault))
-        }
+    let synced = At::Folder.given(sync_folder(rt, folder));
+    if synced.is_err() {
+        unmake(rt, paths, paths.len());
     }
+    synced
 }
 
 /// What the ledger of a key holds of which no leaf is used: the key, and a mark of zero for each leaf.

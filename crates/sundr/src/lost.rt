@@ -1,6 +1,6 @@
 //! The changes of the operation that was declared last, as the journal has it, of which some had no effect.
 
-use crate::folder::{last_declared, read_present};
+use crate::folder::{CERTIFICATE, last_signed, read_present};
 use crate::hindrance::FolderFile;
 use crate::tree::Shown;
 use directory::{MOST_ENTRIES, Target as Place};
@@ -16,15 +16,19 @@ const FIRST_GROUP: u8 = 64;
 /// The operation that was declared last in a folder, if it can be read.
 pub(crate) fn last_operation(rt: &HostRuntime, folder: &str) -> Option<Cert<Global>> {
     let journal = read_present(rt, folder, FolderFile::Journal).ok()?;
-    let signed = last_declared(&journal);
+    let signed = last_signed(&journal, Some(CERTIFICATE));
     let (text, _signature) = signed.split_at(signed.len().saturating_sub(SIGNATURE_SIZE));
     Cert::read(rt.alloc(), text).ok()
 }
 
 /// Whether the change at a place of an operation, from 0 on, is one of those without effect, which are told from 1 on.
 fn is_lost(lost: &[u8], place: usize) -> bool {
-    lost.iter()
-        .any(|number| usize::from(*number) == place.saturating_add(1))
+    for number in lost {
+        if usize::from(*number) == place.saturating_add(1) {
+            return true;
+        }
+    }
+    false
 }
 
 /// What is done at an i-number.
@@ -170,8 +174,18 @@ fn tell_changes(rt: &HostRuntime, own: User, changes: &[Change<Global>], lost: &
 }
 
 /// Whether a change makes something at a place.
-fn makes(change: &Change<Global>, place: Place) -> bool {
-    matches!(change.action(), AnyAction::At(Action::Make(_))) && place_of(change) == place
+fn makes(change: &Change<Global>, place: &Place) -> bool {
+    matches!(change.action(), AnyAction::At(Action::Make(_))) && place_of(change) == *place
+}
+
+/// Whether one of these changes makes something at a place, and had effect.
+fn is_made(changes: &[Change<Global>], lost: &[u8], place: &Place) -> bool {
+    for (at, change) in changes.iter().enumerate() {
+        if makes(change, place) && !is_lost(lost, at) {
+            return true;
+        }
+    }
+    false
 }
 
 /// Tells which of these had effect, but not the change that was to give it its name.
@@ -181,9 +195,7 @@ fn tell_nameless(rt: &HostRuntime, changes: &[Change<Global>], lost: &[u8]) {
             continue;
         };
         let place = entry.target();
-        let is_made = changes.iter().enumerate().any(|(before, made)| makes(made, place)
-            && !is_lost(lost, before));
-        if is_made && is_lost(lost, at) {
+        if is_made(changes, lost, &place) && is_lost(lost, at) {
             let (principal, i_number) = (place.principal.get(), place.i_number.get());
             let _ = eprintln!(rt;
                 "sundr: @{principal}:{i_number}: stands there without a name: link gives it one, rm removes it"
@@ -215,10 +227,10 @@ fn named(changes: &[Change<Global>], name: &str) -> Option<Place> {
 }
 
 /// Whether a change concerns the file of a name, at this place.
-fn concerns(change: &Change<Global>, name: &str, place: Place) -> bool {
+fn concerns(change: &Change<Global>, name: &str, place: &Place) -> bool {
     match change.action() {
         AnyAction::At(Action::Link(entry)) => entry.name().as_str() == name,
-        _ => place_of(change) == place,
+        _ => place_of(change) == *place,
     }
 }
 
@@ -229,9 +241,13 @@ pub(crate) fn is_unwritten(
     name: &str,
     there: Option<Place>,
 ) -> bool {
-    match named(changes, name).or(there) {
-        Some(place) => changes.iter().enumerate().any(|(at, change)| is_lost(lost, at)
-            && concerns(change, name, place)),
-        None => true,
+    let Some(place) = named(changes, name).or(there) else {
+        return true;
+    };
+    for (at, change) in changes.iter().enumerate() {
+        if is_lost(lost, at) && concerns(change, name, &place) {
+            return true;
+        }
     }
+    false
 }

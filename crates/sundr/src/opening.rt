@@ -1,8 +1,8 @@
 //! The files of a user's folder that are written as they stand: the ledgers and the journal. No link is followed, which
 //! could lead to a file of another place, or have one made there.
 
-use crate::folder::{OWNERS_ALONE, device_hindrance, path_of};
-use crate::hindrance::{FileFault, FolderFile, Hindrance};
+use crate::folder::{OWNERS_ALONE, path_of};
+use crate::hindrance::{At, FileFault, FolderFile, Hindrance};
 use commands::Refusal;
 use layout::beside;
 use leaf_ledger::FileDevice;
@@ -41,13 +41,13 @@ pub(crate) fn check_no_links(rt: &HostRuntime, folder: &str, count: u8) -> Resul
     check_no_link(rt, folder, FolderFile::Journal)
 }
 
-/// Makes a file of the owner's alone, for reads and writes, where nothing is there, nor a link.
-fn make(rt: &HostRuntime, path: &str) -> io::Result<File> {
+/// Makes a file of a mode, for reads and writes, where nothing is there, nor a link.
+pub(crate) fn make(rt: &HostRuntime, path: &str, mode: u32) -> io::Result<File> {
     OpenOptions::new()
         .read(true)
         .write(true)
         .create_new(true)
-        .mode(OWNERS_ALONE)
+        .mode(mode)
         .open(rt, path)
 }
 
@@ -69,13 +69,12 @@ pub(crate) fn open_present_to_write(
     let found = match fs::symlink_metadata(rt, &path) {
         Ok(found) => found,
         Err(fault) if fault.kind() == ErrorKind::NotFound => return Ok(None),
-        Err(fault) => return Err(device_hindrance(file, &fault)),
+        Err(fault) => return Err(At::File(file).hindrance(&fault)),
     };
     if found.is_symlink() {
         return Err(at_fault(file, FileFault::Link));
     }
-    let opened = open_anywhere(rt, &path);
-    let (opened, numbers) = opened.map_err(|fault| device_hindrance(file, &fault))?;
+    let (opened, numbers) = At::File(file).given(open_anywhere(rt, &path))?;
     if numbers != numbers_of(&found) {
         return Err(at_fault(file, FileFault::Other));
     }
@@ -89,13 +88,13 @@ pub(crate) fn open_to_write(
     file: FolderFile,
 ) -> Result<File, Hindrance> {
     let path = path_of(rt.alloc(), folder, file)?;
-    match make(rt, &path) {
+    match make(rt, &path, OWNERS_ALONE) {
         Ok(made) => Ok(made),
         Err(fault) if fault.kind() == ErrorKind::AlreadyExists => {
             let there = open_present_to_write(rt, folder, file)?;
             there.ok_or(at_fault(file, FileFault::Other))
         }
-        Err(fault) => Err(device_hindrance(file, &fault)),
+        Err(fault) => Err(At::File(file).hindrance(&fault)),
     }
 }
 
@@ -117,6 +116,6 @@ pub(crate) fn open_device(
 ) -> Result<FileDevice<Global>, Hindrance> {
     let mut opened = open_to_write(rt, folder, file)?;
     let read = synced_bytes(rt, folder, &mut opened);
-    let (opened, text) = beside(opened, read).map_err(|fault| device_hindrance(file, &fault))?;
+    let (opened, text) = At::File(file).given(beside(opened, read))?;
     Ok(FileDevice::over(opened, text)?)
 }

@@ -48,18 +48,14 @@ impl<'a> Pace<'a> {
             .set(self.carried.get().saturating_add(count as u64));
     }
 
-    /// The time that a command has with the bytes that were carried.
-    fn whole(&self) -> Duration {
-        Duration::from_secs(PATIENCE.saturating_add(self.carried.get() / BYTES_A_SECOND))
-    }
-
     /// For how long a read or a write may wait now, if the command's time isn't over.
     pub(crate) fn wait(&self) -> Option<Duration> {
         let gone = match self.begun.get() {
             Some(begun) => begun.elapsed(self.rt).unwrap_or(Duration::ZERO),
             None => Duration::ZERO,
         };
-        match self.whole().checked_sub(gone) {
+        let seconds = PATIENCE.saturating_add(self.carried.get() / BYTES_A_SECOND);
+        match Duration::from_secs(seconds).checked_sub(gone) {
             Some(left) if !left.is_zero() => Some(left.min(silence())),
             _ => None,
         }

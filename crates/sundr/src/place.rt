@@ -2,11 +2,10 @@
 //! back.
 
 use crate::folder::{
-    Keys, MOST_KEYS, count_of, device_hindrance, has_bytes, open_present, open_there, path_of,
-    read_first,
+    Keys, MOST_KEYS, count_of, found_in, has_bytes, open_present, path_of, read_most,
 };
-use crate::hindrance::{FileFault, FolderFile, Hindrance};
-use crate::renewing::move_in;
+use crate::hindrance::{At, FileFault, FolderFile, Hindrance};
+use crate::init::move_in;
 use commands::Refusal;
 use layout::let_go;
 use std::fs::{self, File, Metadata};
@@ -47,26 +46,35 @@ fn made_at(found: &Metadata) -> u128 {
     }
 }
 
-/// The numbers of a file, behind what was told before.
-fn with_file(rt: &HostRuntime, told: String, found: &Metadata) -> io::Result<String> {
+/// Puts the numbers of a file behind what was told before.
+fn add_numbers(rt: &HostRuntime, told: &mut String, found: &Metadata) -> io::Result<()> {
     let (device, number, made) = (found.dev(), found.ino(), made_at(found));
-    Ok(format!(in rt.alloc(); "{told} {device} {number} {made}")?)
+    let numbers = format!(in rt.alloc(); " {device} {number} {made}")?;
+    told.push_str(&numbers)?;
+    Ok(())
 }
 
 /// The place that the system has a folder and its ledgers at.
 fn place_text(rt: &HostRuntime, folder: &str, ledgers: &[File]) -> io::Result<String> {
     let found = fs::metadata(rt, folder)?;
-    let mut told = with_file(rt, format!(in rt.alloc(); "{HEAD}")?, &found)?;
+    let mut told = String::from_str(rt.alloc(), HEAD)?;
+    add_numbers(rt, &mut told, &found)?;
     for ledger in ledgers {
         let found = ledger.metadata()?;
-        told = with_file(rt, told, &found)?;
+        add_numbers(rt, &mut told, &found)?;
     }
-    Ok(format!(in rt.alloc(); "{told}\n")?)
+    told.push_str("\n")?;
+    Ok(told)
 }
 
 /// How many numbers a place has.
 fn count_in(place: &[u8]) -> usize {
-    let blanks = place.iter().filter(|byte| **byte == b' ').count();
+    let mut blanks = 0usize;
+    for byte in place {
+        if *byte == b' ' {
+            blanks = blanks.saturating_add(1);
+        }
+    }
     blanks.saturating_sub(HEAD_BLANKS)
 }
 
@@ -75,43 +83,34 @@ fn ledgers_in(place: &[u8]) -> usize {
     (count_in(place) / NUMBERS).saturating_sub(1)
 }
 
-/// Whether a word is a number in decimal digits.
-fn is_number(word: &str) -> bool {
-    !word.is_empty() && word.bytes().all(|byte| byte.is_ascii_digit())
+/// The numbers of a text, if it is the line of a place.
+fn numbers_of(text: &[u8]) -> Option<&[u8]> {
+    text.strip_prefix(HEAD.as_bytes())?
+        .strip_prefix(b" ")?
+        .strip_suffix(b"\n")
 }
 
-/// The numbers of a text, if it is the line of a place.
-fn numbers_of(text: &[u8]) -> Option<&str> {
-    let text = std::str::from_utf8(text).ok()?;
-    text.strip_prefix(HEAD)?
-        .strip_prefix(" ")?
-        .strip_suffix("\n")
+/// Whether a text is numbers in decimal digits, with a blank between each and the next.
+fn are_numbers(text: &[u8]) -> bool {
+    let mut is_within = false;
+    for byte in text {
+        let is_digit = byte.is_ascii_digit();
+        if !is_digit && (*byte != b' ' || !is_within) {
+            return false;
+        }
+        is_within = is_digit;
+    }
+    is_within
 }
 
 /// Whether a text is a place: of a folder, and of one ledger at least.
 fn is_place(text: &[u8]) -> bool {
     match numbers_of(text) {
         Some(numbers) => {
-            numbers.split(' ').all(is_number)
-                && count_in(text) % NUMBERS == 0
-                && ledgers_in(text) != 0
+            are_numbers(numbers) && count_in(text) % NUMBERS == 0 && ledgers_in(text) != 0
         }
         None => false,
     }
-}
-
-/// What the file of a folder's place holds, if there is one.
-fn read_place(rt: &HostRuntime, folder: &str) -> io::Result<Option<Vec<u8>>> {
-    let path = path_of(rt.alloc(), folder, FolderFile::Place)?;
-    match open_there(rt, &path)? {
-        Some(file) => read_first(rt, file, PLACE_SIZE).map(Some),
-        None => Ok(None),
-    }
-}
-
-/// What a fault of the system at the folder's place is told as.
-fn place_hindrance(fault: &io::Error) -> Hindrance {
-    device_hindrance(FolderFile::Place, fault)
 }
 
 /// What is told of a place that doesn't fit its folder.
@@ -122,7 +121,7 @@ fn foreign(fault: FileFault) -> Hindrance {
 /// The place at which a folder tells that it was used last, if it does. A file that is none is refused; where the folder is
 /// said to be moved it tells nothing.
 fn told_place(rt: &HostRuntime, folder: &str, moved: bool) -> Result<Option<Vec<u8>>, Hindrance> {
-    let told = read_place(rt, folder).map_err(|fault| place_hindrance(&fault))?;
+    let told = read_most(rt, folder, FolderFile::Place, PLACE_SIZE)?;
     let is_whole = match &told {
         Some(text) => is_place(text),
         None => true,
@@ -188,21 +187,6 @@ pub(crate) fn check_files(
     }
 }
 
-/// How the place at which a folder was used last is to the one that it has.
-#[derive(Clone, Copy)]
-enum Last {
-    /// There is none.
-    Untold,
-    /// It is the one that it has.
-    Here,
-    /// It is that, before the folder got a further ledger.
-    Fewer,
-    /// It is that, when the folder had a further ledger.
-    More,
-    /// It is another one.
-    Elsewhere,
-}
-
 /// Whether a place tells of the same ledgers as another, and then of further ones: its line goes on.
 fn goes_on(place: &[u8], other: &[u8]) -> bool {
     match other.strip_suffix(b"\n") {
@@ -211,40 +195,6 @@ fn goes_on(place: &[u8], other: &[u8]) -> bool {
             None => false,
         },
         None => false,
-    }
-}
-
-/// How the place at which a folder was used last is to the one that it has.
-fn last_of(told: &[u8], own: &[u8]) -> Last {
-    if told == own {
-        Last::Here
-    } else if goes_on(own, told) {
-        Last::Fewer
-    } else if ledgers_in(own) != 0 && goes_on(told, own) {
-        Last::More
-    } else {
-        Last::Elsewhere
-    }
-}
-
-/// How the place at which a folder tells that it was used last is to the one that it has.
-fn last_place(rt: &HostRuntime, folder: &str, own: &str, moved: bool) -> Result<Last, Hindrance> {
-    match told_place(rt, folder, moved)? {
-        Some(told) => Ok(last_of(&told, own.as_bytes())),
-        None => Ok(Last::Untold),
-    }
-}
-
-/// Refuses a folder whose place isn't the one at which it was used last: it is a copy, or was put back, and would sign
-/// with leaves that were used; or a seed is gone.
-fn check_last(own: &str, last: Last) -> Result<(), Hindrance> {
-    match last {
-        Last::Untold | Last::Here | Last::Fewer => Ok(()),
-        Last::More => {
-            let next = u8::try_from(ledgers_in(own.as_bytes())).unwrap_or(MOST_KEYS);
-            Err(Hindrance::NoKeys(FolderFile::Seed(next), FileFault::SeedGone))
-        }
-        Last::Elsewhere => Err(foreign(FileFault::Elsewhere)),
     }
 }
 
@@ -268,32 +218,46 @@ pub(crate) struct Place {
 
 /// Whether a folder was used: its journal has more than a gate.
 fn was_used(rt: &HostRuntime, folder: &str) -> Result<bool, Hindrance> {
-    let path = path_of(rt.alloc(), folder, FolderFile::Journal)?;
-    Ok(fs::metadata(rt, &path).is_ok_and(|found| found.len() > NEW_JOURNAL))
+    match found_in(rt, folder, FolderFile::Journal)? {
+        Some(found) => Ok(found.len() > NEW_JOURNAL),
+        None => Ok(false),
+    }
 }
 
-/// What has to be done so that a folder tells the place that it has. One that isn't at the place at which it was used last
-/// is refused, unless it is said to be moved.
+/// What has to be done so that a folder tells the place that it has, where it tells that it was used last at another one
+/// or at that. It is refused at another one, unless it is said to be moved: it is a copy, or was put back, and would sign
+/// with leaves that were used; or a seed is gone. Where it got a further ledger since, it is at the same one.
+fn telling_after(told: &[u8], own: &[u8], moved: bool) -> Result<Telling, Hindrance> {
+    let ledgers = ledgers_in(own);
+    if told == own {
+        Ok(Telling::Told)
+    } else if moved || goes_on(own, told) {
+        Ok(Telling::Untold)
+    } else if ledgers != 0 && goes_on(told, own) {
+        let next = u8::try_from(ledgers).unwrap_or(MOST_KEYS);
+        Err(Hindrance::NoKeys(FolderFile::Seed(next), FileFault::SeedGone))
+    } else {
+        Err(foreign(FileFault::Elsewhere))
+    }
+}
+
+/// What has to be done so that a folder tells the place that it has.
 fn telling_of(
     rt: &HostRuntime,
     folder: &str,
     own: &str,
     moved: bool,
 ) -> Result<Telling, Hindrance> {
-    let last = last_place(rt, folder, own, moved)?;
-    if !moved {
-        check_last(own, last)?;
-    }
-    match last {
-        Last::Here => Ok(Telling::Told),
-        Last::Untold if was_used(rt, folder)? => Ok(Telling::Late),
-        _ => Ok(Telling::Untold),
+    match told_place(rt, folder, moved)? {
+        Some(told) => telling_after(&told, own.as_bytes(), moved),
+        None if was_used(rt, folder)? => Ok(Telling::Late),
+        None => Ok(Telling::Untold),
     }
 }
 
 /// The place that a folder has, with the ledgers that are open.
 fn own_place(rt: &HostRuntime, folder: &str, ledgers: &[File]) -> Result<String, Hindrance> {
-    place_text(rt, folder, ledgers).map_err(|fault| place_hindrance(&fault))
+    At::File(FolderFile::Place).given(place_text(rt, folder, ledgers))
 }
 
 /// Refuses a folder that isn't at the place at which it was used last, unless it is said to be moved, and gives the place
@@ -311,7 +275,7 @@ pub(crate) fn check_place(
 
 /// Refuses a folder whose ledgers aren't at the place any more that was checked: they were opened by their names since,
 /// and those that are locked have to be those that are used.
-pub(crate) fn check_again(
+fn check_again(
     rt: &HostRuntime,
     folder: &str,
     keys: &Keys,
@@ -327,20 +291,25 @@ pub(crate) fn check_again(
 
 /// Puts the file of a folder's place there, which is there whole or as it was, and syncs the folder.
 fn put_place(rt: &HostRuntime, folder: &str, text: &str) -> io::Result<()> {
-    let path = path_of(rt.alloc(), folder, FolderFile::Place)?;
-    let beside = format!(in rt.alloc(); "{path}.new")?;
-    move_in(rt, &beside, &path, text.as_bytes())?;
+    move_in(rt, folder, FolderFile::Place, text.as_bytes())?;
     File::open(rt, folder)?.sync_all()
 }
 
-/// Tells a folder its place, where it doesn't tell that already. Only then leaves are taken.
-pub(crate) fn tell_place(rt: &HostRuntime, folder: &str, place: &Place) -> Result<(), Hindrance> {
+/// Tells a folder its place, where it doesn't tell that already, and if its ledgers are those that were checked. Only then
+/// leaves are taken.
+pub(crate) fn tell_place(
+    rt: &HostRuntime,
+    folder: &str,
+    keys: &Keys,
+    place: &Place,
+) -> Result<(), Hindrance> {
+    check_again(rt, folder, keys, place)?;
     if matches!(place.telling, Telling::Told) {
         return Ok(());
     }
-    put_place(rt, folder, &place.text).map_err(|fault| place_hindrance(&fault))?;
+    let file = FolderFile::Place;
+    At::File(file).given(put_place(rt, folder, &place.text))?;
     if matches!(place.telling, Telling::Late) {
-        let file = FolderFile::Place;
         let _ = eprintln!(rt; "sundr: {folder}/{file}: {LATE}");
     }
     Ok(())
@@ -348,7 +317,10 @@ pub(crate) fn tell_place(rt: &HostRuntime, folder: &str, place: &Place) -> Resul
 
 /// Whether a file has nothing.
 fn is_empty(file: &File) -> bool {
-    file.metadata().is_ok_and(|found| found.len() == 0)
+    match file.metadata() {
+        Ok(found) => found.len() == 0,
+        Err(_) => false,
+    }
 }
 
 /// Tells which of a folder's ledgers, the first one first, are made: they have nothing yet. The seed of one may have signed

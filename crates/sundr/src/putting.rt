@@ -1,9 +1,10 @@
 //! All that stands in a folder of this system is written below a directory.
 
-use crate::folder::{content_hindrance, read_content};
-use crate::hindrance::Hindrance;
+use crate::asking::Asks;
+use crate::folder::{CONTENT_SIZE, read_named};
+use crate::hindrance::{At, Hindrance};
 use crate::lost::{is_unwritten, last_operation};
-use crate::tree::{Context, IN_THE_WAY, OWN_FOLDER, Shown, Stopped, Tally, joined, place_word};
+use crate::tree::{Context, IN_THE_WAY, OWN_FOLDER, Shown, Stopped, joined, place_word};
 use commands::{Answer, Command, Kind, MOST_FILES, NewFile, Refusal, Row, have_names};
 use directory::{MOST_ENTRIES, Target as Place};
 use itable::FILE_SIZE;
@@ -11,7 +12,6 @@ use layout::let_go;
 use std::alloc::{AllocError, Global};
 use std::fs;
 use std::io::{self, ErrorKind};
-use std::net::{Net, TcpStream};
 use update_cert::Cert;
 
 /// What is told of a name that is none here.
@@ -38,16 +38,15 @@ struct Content {
     there: Option<Place>,
 }
 
-/// What is still to be written, and what was.
+/// What is still to be written.
 #[derive(Drop)]
-struct Putting<'a, 's, 'c, H: Net<Stream = TcpStream>> {
-    context: Context<'a, 's, 'c, H>,
+struct Putting<'a, S: Asks> {
+    context: Context<'a, S>,
     pending: Vec<Pending>,
     /// The files that are written next, all into one directory.
     files: Vec<Content>,
     /// How many entries that directory has by then.
     entries: usize,
-    tally: Tally,
 }
 
 /// The names of a folder, in ascending order, and whether it has others that aren't text.
@@ -65,29 +64,19 @@ fn names_in(rt: &HostRuntime, folder: &str) -> io::Result<(Vec<String>, bool)> {
     Ok((names, has_others))
 }
 
-/// What stands under a name among these entries, if one has it.
-fn kind_of(rows: &[Row<Global>], name: &str) -> Option<Kind> {
-    let row = rows.iter().find(|row| row.entry().name().as_str() == name)?;
-    Some(row.kind())
+/// What stands under a name among these entries, and where, if one has it.
+fn found_in(rows: &[Row<Global>], name: &str) -> Option<(Kind, Place)> {
+    for row in rows {
+        if row.entry().name().as_str() == name {
+            return Some((row.kind(), row.entry().target()));
+        }
+    }
+    None
 }
 
 /// Whether an entry may have a name.
 fn is_name(name: &str) -> bool {
     have_names(&[NewFile { name, content: &[] }])
-}
-
-/// The place that a name stands for among these entries, if one has it.
-fn place_of(rows: &[Row<Global>], name: &str) -> Option<Place> {
-    let row = rows.iter().find(|row| row.entry().name().as_str() == name)?;
-    Some(row.entry().target())
-}
-
-/// The place of the file of a name and a size, if there is one among these entries.
-fn like(rows: &[Row<Global>], name: &str, size: usize) -> Option<Place> {
-    match kind_of(rows, name) {
-        Some(Kind::File(bytes)) if bytes as usize == size => place_of(rows, name),
-        _ => None,
-    }
 }
 
 /// The names and the bytes of these files.
@@ -110,40 +99,27 @@ fn is_lost(operation: &Option<Cert<Global>>, lost: &[u8], file: &Content) -> boo
     }
 }
 
-impl<H: Net<Stream = TcpStream>> Putting<'_, '_, '_, H> {
+impl<S: Asks> Putting<'_, S> {
     /// The entries of a directory, which is made where nothing is there.
     fn rows_at(&mut self, path: &str) -> Result<Vec<Row<Global>>, Stopped> {
-        match self.context.run(&Command::Mkdir(path)) {
+        match self.context.session.run(&Command::Mkdir(path)) {
             Answer::Done => return Ok(Vec::new(self.context.rt.alloc())),
             Answer::Refused(Refusal::There) => {}
-            other => return Err(Stopped::Answered(other)),
+            other => return Err(self.context.stop(other)),
         }
         // What is there was looked at just now.
-        match self.context.show(&Command::Details(path)) {
+        match self.context.session.show(&Command::Details(path)) {
             Answer::Details(rows) => Ok(rows),
-            other => Err(Stopped::Answered(other)),
+            other => Err(self.context.stop(other)),
         }
     }
 
     /// Whether the file at a place has these bytes.
     fn has_content(&mut self, place: Place, content: &[u8]) -> Result<bool, Stopped> {
         let word = place_word(self.context.rt.alloc(), place)?;
-        match self.context.show(&Command::Cat(&word)) {
+        match self.context.session.show(&Command::Cat(&word)) {
             Answer::Bytes(bytes) => Ok(bytes.as_slice() == content),
-            other => Err(Stopped::Answered(other)),
-        }
-    }
-
-    /// Writes the files that are next into a directory, in one operation.
-    fn write_all(&mut self, directory: &str) -> Result<(), Stopped> {
-        let files = new_files(self.context.rt.alloc(), &self.files)?;
-        let command = Command::PutAll {
-            directory,
-            files: &files,
-        };
-        match self.context.run(&command) {
-            Answer::Done => Ok(()),
-            other => Err(Stopped::Answered(other)),
+            other => Err(self.context.stop(other)),
         }
     }
 
@@ -166,35 +142,90 @@ impl<H: Net<Stream = TcpStream>> Putting<'_, '_, '_, H> {
         count
     }
 
+    /// What came of the operation that writes the files that are next into a directory.
+    fn written(&mut self, directory: &str, answer: Answer<Global>) -> Result<(), Stopped> {
+        let count = self.files.len();
+        match answer {
+            Answer::Done => {
+                self.context.count(count);
+                Ok(())
+            }
+            Answer::Lost(lost) => {
+                let left = self.tell_lost(directory, &lost);
+                self.context.count(count.saturating_sub(left));
+                Err(self.context.stop(Answer::Lost(lost)))
+            }
+            other => Err(self.context.stop(other)),
+        }
+    }
+
+    /// Asks that the files that are next are written into a directory, in one operation.
+    fn ask(&mut self, directory: &str) -> Result<Answer<Global>, AllocError> {
+        let files = new_files(self.context.rt.alloc(), &self.files)?;
+        let command = Command::PutAll {
+            directory,
+            files: &files,
+        };
+        Ok(self.context.run(&command))
+    }
+
     /// Writes the files that are next into a directory.
     fn write(&mut self, directory: &str) -> Result<(), Stopped> {
         if self.files.is_empty() {
             return Ok(());
         }
-        let written = self.write_all(directory);
-        match &written {
-            Ok(()) => self.tally.count(self.context.rt, self.files.len()),
-            Err(Stopped::Answered(Answer::Lost(lost))) => {
-                let left = self.tell_lost(directory, lost);
-                self.tally
-                    .count(self.context.rt, self.files.len().saturating_sub(left));
-            }
-            Err(_) => (),
-        }
+        let written = match self.ask(directory) {
+            Ok(answer) => self.written(directory, answer),
+            Err(error) => Err(error.into()),
+        };
         self.files.clear();
         written
     }
 
     /// Why a file isn't written, if it isn't: what stands under its name, the name itself, its size, or no room for one
     /// more entry.
-    fn unwritten(&self, kind: Option<Kind>, name: &str, size: usize) -> Option<&'static str> {
-        match kind {
-            Some(Kind::Directory | Kind::Nothing) => Some(IN_THE_WAY),
+    fn unwritten(
+        &self,
+        found: Option<(Kind, Place)>,
+        name: &str,
+        size: usize,
+    ) -> Option<&'static str> {
+        match found {
+            Some((Kind::Directory | Kind::Nothing, _)) => Some(IN_THE_WAY),
             None if !is_name(name) => Some(NO_NAME),
             None if self.entries >= MOST_ENTRIES => Some(NO_ROOM),
             _ if size > FILE_SIZE as usize => Some("larger than a file may be"),
             _ => None,
         }
+    }
+
+    /// Whether a file is to be written: it isn't left out, nor stands there with the same bytes.
+    fn is_due(
+        &mut self,
+        found: Option<(Kind, Place)>,
+        (from, name): (&str, &str),
+        bytes: &[u8],
+    ) -> Result<bool, Stopped> {
+        if let Some(why) = self.unwritten(found, name, bytes.len()) {
+            self.context.leave_out(from, why);
+            return Ok(false);
+        }
+        match found {
+            Some((Kind::File(size), place)) if size as usize == bytes.len() => {
+                Ok(!self.has_content(place, bytes)?)
+            }
+            _ => Ok(true),
+        }
+    }
+
+    /// A file of these bytes is written next.
+    fn push(&mut self, name: &str, bytes: Vec<u8>, there: Option<Place>) -> Result<(), Stopped> {
+        let name = String::from_str(self.context.rt.alloc(), name)?;
+        self.files.push(Content { name, bytes, there })?;
+        if there.is_none() {
+            self.entries = self.entries.saturating_add(1);
+        }
+        Ok(())
     }
 
     /// A file is written next, unless it stands there with the same bytes. As many as one operation makes are written.
@@ -203,24 +234,16 @@ impl<H: Net<Stream = TcpStream>> Putting<'_, '_, '_, H> {
         rows: &[Row<Global>],
         (from, directory, name): (&str, &str, &str),
     ) -> Result<(), Stopped> {
-        let rt = self.context.rt;
-        let bytes = read_content(rt, from)?;
-        let kind = kind_of(rows, name);
-        if let Some(why) = self.unwritten(kind, name, bytes.len()) {
-            self.tally.leave_out(rt, from, why);
+        let bytes = read_named(self.context.rt, from, CONTENT_SIZE)?;
+        let found = found_in(rows, name);
+        if !self.is_due(found, (from, name), &bytes)? {
             return Ok(());
         }
-        if let Some(place) = like(rows, name, bytes.len()) {
-            if self.has_content(place, &bytes)? {
-                return Ok(());
-            }
-        }
-        let there = place_of(rows, name);
-        let name = String::from_str(rt.alloc(), name)?;
-        self.files.push(Content { name, bytes, there })?;
-        if kind.is_none() {
-            self.entries = self.entries.saturating_add(1);
-        }
+        let there = match found {
+            Some((_, place)) => Some(place),
+            None => None,
+        };
+        self.push(name, bytes, there)?;
         if self.files.len() >= MOST_FILES {
             self.write(directory)?;
         }
@@ -233,19 +256,14 @@ impl<H: Net<Stream = TcpStream>> Putting<'_, '_, '_, H> {
         rows: &[Row<Global>],
         (from, directory, name): (&str, &str, &str),
     ) -> Result<(), Stopped> {
-        let rt = self.context.rt;
-        let why = match kind_of(rows, name) {
-            Some(Kind::File(_) | Kind::Nothing) => Some(IN_THE_WAY),
-            None if !is_name(name) => Some(NO_NAME),
-            _ => None,
-        };
-        if let Some(why) = why {
-            self.tally.leave_out(rt, from, why);
-            return Ok(());
+        let alloc = self.context.rt.alloc();
+        match found_in(rows, name) {
+            Some((Kind::File(_) | Kind::Nothing, _)) => self.context.leave_out(from, IN_THE_WAY),
+            None if !is_name(name) => self.context.leave_out(from, NO_NAME),
+            _ => self
+                .pending
+                .push(folder_for(alloc, from, directory, name)?)?,
         }
-        let folder = String::from_str(rt.alloc(), from)?;
-        let path = joined(rt.alloc(), directory, name)?;
-        self.pending.push(Pending { folder, path })?;
         Ok(())
     }
 
@@ -255,27 +273,22 @@ impl<H: Net<Stream = TcpStream>> Putting<'_, '_, '_, H> {
         rows: &[Row<Global>],
         (from, directory, name): (&str, &str, &str),
     ) -> Result<(), Stopped> {
-        let found = match fs::symlink_metadata(self.context.rt, from) {
-            Ok(found) => found,
-            Err(fault) => return Err(content_hindrance(&fault).into()),
-        };
+        let found = At::Named.given(fs::symlink_metadata(self.context.rt, from))?;
         if found.is_dir() {
-            return self.add_folder(rows, (from, directory, name));
+            self.add_folder(rows, (from, directory, name))
+        } else if found.is_file() {
+            self.add_file(rows, (from, directory, name))
+        } else {
+            self.context.leave_out(from, "neither a file nor a folder");
+            Ok(())
         }
-        if found.is_file() {
-            return self.add_file(rows, (from, directory, name));
-        }
-        self.tally
-            .leave_out(self.context.rt, from, "neither a file nor a folder");
-        Ok(())
     }
 
     /// What has a name in a folder is written. What this system doesn't let be read is left out.
     fn add(&mut self, rows: &[Row<Global>], here: &Pending, name: &str) -> Result<(), Stopped> {
-        let rt = self.context.rt;
-        let from = joined(rt.alloc(), &here.folder, name)?;
+        let from = joined(self.context.rt.alloc(), &here.folder, name)?;
         let done = self.add_found(rows, (&from, &here.path, name));
-        self.tally.past(rt, &from, done)
+        self.context.past(&from, done)
     }
 
     /// Writes what stands in a folder under these names.
@@ -285,6 +298,7 @@ impl<H: Net<Stream = TcpStream>> Putting<'_, '_, '_, H> {
         here: &Pending,
         names: &[String],
     ) -> Result<(), Stopped> {
+        self.entries = rows.len();
         for name in names {
             self.add(rows, here, name)?;
         }
@@ -293,39 +307,25 @@ impl<H: Net<Stream = TcpStream>> Putting<'_, '_, '_, H> {
 
     /// The names of a folder. Those that aren't text are left out.
     fn names(&mut self, folder: &str) -> Result<Vec<String>, Stopped> {
-        let rt = self.context.rt;
-        match names_in(rt, folder) {
-            Ok((names, has_others)) => {
-                if has_others {
-                    self.tally.leave_out(rt, folder, NO_TEXT);
-                }
-                Ok(names)
-            }
-            Err(fault) => Err(content_hindrance(&fault).into()),
+        let (names, has_others) = At::Named.given(names_in(self.context.rt, folder))?;
+        if has_others {
+            self.context.leave_out(folder, NO_TEXT);
         }
-    }
-
-    /// Whether a folder is the user's own.
-    fn is_own(&self, folder: &str) -> bool {
-        match fs::metadata(self.context.rt, folder) {
-            Ok(found) => self.context.is_own(&found),
-            Err(_) => false,
-        }
+        Ok(names)
     }
 
     /// Writes what stands in a folder, unless it is the user's own.
     fn go_on(&mut self, here: &Pending) -> Result<(), Stopped> {
-        if self.is_own(&here.folder) {
-            self.tally
-                .leave_out(self.context.rt, &here.folder, OWN_FOLDER);
-            return Ok(());
+        match fs::metadata(self.context.rt, &here.folder) {
+            Ok(found) if self.context.is_own(&found) => {
+                self.context.leave_out(&here.folder, OWN_FOLDER);
+                return Ok(());
+            }
+            _ => (),
         }
         let names = self.names(&here.folder)?;
         let rows = self.rows_at(&here.path)?;
-        self.entries = rows.len();
-        let gone = self.add_all(&rows, here, &names);
-        let_go(rows);
-        gone
+        self.add_all(&rows, here, &names)
     }
 
     /// Writes what stands in each folder that was put off, those last that stand deepest.
@@ -334,18 +334,21 @@ impl<H: Net<Stream = TcpStream>> Putting<'_, '_, '_, H> {
             match self.pending.pop() {
                 Some(next) => {
                     let done = self.go_on(&next);
-                    self.tally.past(self.context.rt, &next.folder, done)?;
+                    self.context.past(&next.folder, done)?;
                 }
                 None => break,
             }
         }
         Ok(())
     }
+}
 
-    /// What was written.
-    fn into_tally(self) -> Tally {
-        self.tally
-    }
+/// A folder, and the directory of a name for it.
+fn folder_for(alloc: Global, folder: &str, above: &str, name: &str) -> Result<Pending, AllocError> {
+    Ok(Pending {
+        folder: String::from_str(alloc, folder)?,
+        path: joined(alloc, above, name)?,
+    })
 }
 
 /// The first folder, of those whose files are to be written.
@@ -361,8 +364,8 @@ fn first(alloc: Global, folder: &str, path: &str) -> Result<Vec<Pending>, Hindra
 
 /// Writes all that stands in a folder of this system below a directory, which is made where nothing is there. Eight files
 /// at most go into one operation; what is there already with the same bytes is left as it is.
-pub(crate) fn put_tree<H: Net<Stream = TcpStream>>(
-    context: Context<'_, '_, '_, H>,
+pub(crate) fn put_tree<S: Asks>(
+    context: Context<'_, S>,
     folder: &str,
     path: &str,
 ) -> Result<Answer<Global>, Hindrance> {
@@ -373,8 +376,8 @@ pub(crate) fn put_tree<H: Net<Stream = TcpStream>>(
         pending,
         files: Vec::new(rt.alloc()),
         entries: 0,
-        tally: Tally::new(),
     };
     let gone = putting.go();
-    putting.into_tally().answer(rt, path, gone)
+    let Putting { context, .. } = putting;
+    context.finish(path, gone)
 }

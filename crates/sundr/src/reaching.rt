@@ -133,10 +133,10 @@ impl Reach {
 /// about which places it is asked next.
 #[derive(Drop)]
 pub(crate) struct Contact<'a> {
-    reach: Cell<Reach>,
-    pace: Pace<'a>,
+    pub(crate) reach: Cell<Reach>,
+    pub(crate) pace: Pace<'a>,
     /// Where that is known, and wasn't made use of yet.
-    next: Cell<Option<Vec<Place>>>,
+    pub(crate) next: Cell<Option<Vec<Place>>>,
 }
 
 impl<'a> Contact<'a> {
@@ -147,21 +147,6 @@ impl<'a> Contact<'a> {
             pace: Pace::new(rt),
             next: Cell::new(None),
         }
-    }
-
-    /// What came of the latest try to reach the server.
-    pub(crate) fn reach(&self) -> Reach {
-        self.reach.get()
-    }
-
-    /// Another command begins now.
-    pub(crate) fn begin(&self) {
-        self.pace.begin();
-    }
-
-    /// The places about which it is asked next, where that was told and not yet made use of.
-    pub(crate) fn next_places(&self) -> Option<Vec<Place>> {
-        self.next.replace(None)
     }
 }
 
@@ -194,11 +179,14 @@ fn hurry(stream: &TcpStream, contact: &Contact<'_>, hurried: &mut bool) -> Resul
         return Err(Broken::Slow);
     };
     let is_short = wait < silence();
-    if is_short || *hurried {
-        *hurried = is_short;
-        limit(stream, wait).map_err(|_| Broken::Other)?;
+    if !is_short && !*hurried {
+        return Ok(());
     }
-    Ok(())
+    *hurried = is_short;
+    match limit(stream, wait) {
+        Ok(()) => Ok(()),
+        Err(_) => Err(Broken::Other),
+    }
 }
 
 /// What a fault is in which bytes were read or written: where the command has no time left, that.
@@ -236,17 +224,6 @@ fn write_in_time(
 }
 
 impl<'a> Stream<'a> {
-    /// A stream from which nothing was read and to which nothing was written.
-    fn new(stream: TcpStream, contact: &'a Contact<'a>) -> Stream<'a> {
-        Stream {
-            stream,
-            contact,
-            hurried: false,
-            ended: false,
-            faults: 0,
-        }
-    }
-
     /// Reads bytes in the time that is left.
     fn read_in_time(&mut self, buffer: &mut [u8]) -> Result<usize, Broken>
         ensures bound { IfOk result (λ count. count ≤ length buffer.new) }
@@ -301,53 +278,12 @@ impl<'a> Connection for Stream<'a> {
     }
 }
 
-/// The server at an address.
+/// The server at an address, which is reached by a host. Each try tells what came of it.
 #[derive(Drop)]
 pub(crate) struct Server<'a, H> {
-    host: &'a H,
-    address: &'a str,
-    contact: &'a Contact<'a>,
-}
-
-impl<'a, H> Server<'a, H> {
-    /// It is reached by a host, and each try tells here what came of it.
-    pub(crate) fn new(host: &'a H, address: &'a str, contact: &'a Contact<'a>) -> Server<'a, H> {
-        Server {
-            host,
-            address,
-            contact,
-        }
-    }
-
-    /// The same server, over a connection of its own.
-    pub(crate) fn again(&self) -> Server<'a, H> {
-        Server::new(self.host, self.address, self.contact)
-    }
-
-    /// What connects, and starts threads.
-    pub(crate) fn host(&self) -> &'a H {
-        self.host
-    }
-
-    /// What came of the latest try to reach it.
-    pub(crate) fn reach(&self) -> Reach {
-        self.contact.reach()
-    }
-
-    /// Another command of it begins now.
-    pub(crate) fn begin(&self) {
-        self.contact.begin();
-    }
-
-    /// What is known of it while it is asked.
-    pub(crate) fn contact(&self) -> &'a Contact<'a> {
-        self.contact
-    }
-
-    /// About these places it is asked next, in this order.
-    pub(crate) fn foresee(&self, places: Vec<Place>) {
-        self.contact.next.set(Some(places));
-    }
+    pub(crate) host: &'a H,
+    pub(crate) address: &'a str,
+    pub(crate) contact: &'a Contact<'a>,
 }
 
 /// Bounds each read and each write of a stream.
@@ -372,9 +308,10 @@ fn join<H: Net<Stream = TcpStream>>(
 
 /// A stream to the first of a server's addresses that can be connected with.
 fn dial<H: Net<Stream = TcpStream>>(host: &H, address: &str) -> Result<TcpStream, Unreached> {
-    let addresses = address
-        .to_socket_addrs(host)
-        .map_err(|fault| Unreached::by_name(&fault))?;
+    let addresses = match address.to_socket_addrs(host) {
+        Ok(addresses) => addresses,
+        Err(fault) => return Err(Unreached::by_name(&fault)),
+    };
     let patience = PATIENCE / addresses.len().max(1) as u64;
     let mut last = Unreached::NoHost;
     for address in addresses {
@@ -391,7 +328,13 @@ impl<'a, H: Net<Stream = TcpStream>> Connect<Stream<'a>> for Server<'a, H> {
         match dial(self.host, self.address) {
             Ok(stream) => {
                 self.contact.reach.set(Reach::Joined);
-                Ok(Stream::new(stream, self.contact))
+                Ok(Stream {
+                    stream,
+                    contact: self.contact,
+                    hurried: false,
+                    ended: false,
+                    faults: 0,
+                })
             }
             Err(unreached) => {
                 self.contact.reach.set(Reach::Unreached(unreached));

@@ -8,7 +8,6 @@ use file_commands::{Line, NewFolder, Wanted};
 use layout::User;
 use reply_rules::Rule;
 use std::alloc::Global;
-use std::fmt;
 use wire::Status;
 
 /// How many bytes a name has at most.
@@ -43,45 +42,20 @@ pub(crate) enum Reason<'a> {
     },
 }
 
-/// What is so of a file of the folder.
-fn write_of_file<W: fmt::Write>(
-    f: &mut fmt::Formatter<W>,
-    folder: &str,
-    file: FolderFile,
-    words: &str,
-) -> fmt::Result {
-    write!(f, "{folder}/{file}: {words}")
-}
-
-/// What is so of something that has a name.
-fn write_of<W: fmt::Write>(f: &mut fmt::Formatter<W>, name: &str, words: &str) -> fmt::Result {
-    write!(f, "{name}: {words}")
-}
-
-/// That the folder is one user's, and not another's.
-fn write_of_user<W: fmt::Write>(
-    f: &mut fmt::Formatter<W>,
-    folder: &str,
-    own: u8,
-    other: u8,
-) -> fmt::Result {
-    write!(
-        f,
-        "{folder}: the folder of user {own}, not of user {other}: say --user {own}"
-    )
-}
-
-impl<'a> fmt::Display for Reason<'a> {
-    fn fmt<W: fmt::Write>(&self, f: &mut fmt::Formatter<W>) -> fmt::Result {
-        match self {
+impl Reason<'_> {
+    /// Tells it.
+    pub(crate) fn tell(self, rt: &HostRuntime) {
+        let _ = match self {
             Reason::OfFile {
                 folder,
                 file,
                 words,
-            } => write_of_file(f, folder, *file, words),
-            Reason::Of { name, words } => write_of(f, name, words),
-            Reason::OfUser { folder, own, other } => write_of_user(f, folder, *own, *other),
-        }
+            } => eprintln!(rt; "sundr: {folder}/{file}: {words}"),
+            Reason::Of { name, words } => eprintln!(rt; "sundr: {name}: {words}"),
+            Reason::OfUser { folder, own, other } => eprintln!(rt;
+                "sundr: {folder}: the folder of user {own}, not of user {other}: say --user {own}"
+            ),
+        };
     }
 }
 
@@ -220,11 +194,27 @@ fn path_in<'a>(wanted: &Wanted<'a>) -> &'a str {
     }
 }
 
+/// Whether a name in a path has more bytes than it may have.
+fn has_long_name(path: &str) -> bool {
+    let mut size = 0usize;
+    for byte in path.as_bytes() {
+        size = if *byte == b'/' {
+            0
+        } else {
+            size.saturating_add(1)
+        };
+        if size > MOST_BYTES {
+            return true;
+        }
+    }
+    false
+}
+
 /// Why a text is no path, if it is none.
 fn words_of_none(path: &str) -> Option<&'static str> {
     if path_of(path).is_some() {
         None
-    } else if path.split('/').any(|name| name.len() > MOST_BYTES) {
+    } else if has_long_name(path) {
         Some("not a path: a name in it has more than 255 bytes, the most that a name may have")
     } else {
         Some("not a path: paths are /, /a/b, @p:i and @p:i/a/b")
@@ -369,69 +359,53 @@ pub(crate) fn reason_of_answer<'a>(
     }
 }
 
-/// What is at fault with a file of the folder.
-fn reason_of_file<'a>(folder: &'a str, file: FolderFile, fault: FileFault) -> Reason<'a> {
-    Reason::OfFile {
-        folder,
-        file,
-        words: fault.words(),
-    }
+/// What is so of a folder, or of a file that is named, which hinders a command, but for what is told otherwise.
+fn reason_in<'a>(folder: &'a str, named: &'a str, hindrance: Hindrance) -> Option<Reason<'a>> {
+    let (name, words) = match hindrance {
+        Hindrance::NoKeys(file, fault) | Hindrance::OfFile(_, file, fault) => {
+            let words = fault.words();
+            return Some(Reason::OfFile {
+                folder,
+                file,
+                words,
+            });
+        }
+        Hindrance::NoFile(fault) => (named, fault.words()),
+        Hindrance::NoFolder(fault) => (folder, fault.words()),
+        Hindrance::NotRenewed(fault) => (folder, fault.words()),
+        Hindrance::OfUser(_) | Hindrance::Refused(_) | Hindrance::Told(_) => return None,
+    };
+    Some(Reason::Of { name, words })
 }
 
-/// What is at fault with what has a name.
-fn reason_of_fault<'a>(name: &'a str, fault: FileFault) -> Reason<'a> {
-    Reason::Of {
-        name,
-        words: fault.words(),
-    }
-}
-
-/// That the folder is one user's, and not another's.
-fn reason_of_user<'a>(folder: &'a str, own: User, other: User) -> Reason<'a> {
-    Reason::OfUser {
-        folder,
-        own: own.get(),
-        other: other.get(),
-    }
-}
-
-/// Why a command isn't begun.
+/// Why a command isn't begun, if that wasn't told.
 pub(crate) fn reason_of_hindrance<'a>(
     line: &Line<'a>,
     wanted: &Wanted<'a>,
     hindrance: Hindrance,
-) -> Reason<'a> {
+) -> Option<Reason<'a>> {
     match hindrance {
-        Hindrance::NoKeys(file, fault) | Hindrance::OfFile(_, file, fault) => {
-            reason_of_file(line.dir, file, fault)
-        }
-        Hindrance::NoFile(fault) => reason_of_fault(file_in(wanted), fault),
-        Hindrance::NoFolder(fault) => reason_of_fault(line.dir, fault),
-        Hindrance::OfUser(own) => reason_of_user(line.dir, own, line.user),
+        Hindrance::OfUser(own) => Some(Reason::OfUser {
+            folder: line.dir,
+            own: own.get(),
+            other: line.user.get(),
+        }),
         Hindrance::Refused(refusal) => {
-            reason_of_refusal(line, wanted, Reach::Untried, Found::Unasked, refusal)
+            Some(reason_of_refusal(line, wanted, Reach::Untried, Found::Unasked, refusal))
         }
-        Hindrance::NotRenewed(fault) => Reason::Of {
-            name: line.dir,
-            words: fault.words(),
-        },
+        other => reason_in(line.dir, file_in(wanted), other),
     }
 }
 
 /// Why a folder isn't made.
-pub(crate) fn reason_of_unmade<'a>(new: &NewFolder<'a>, hindrance: Hindrance) -> Reason<'a> {
+pub(crate) fn reason_of_unmade<'a>(
+    new: &NewFolder<'a>,
+    hindrance: Hindrance,
+) -> Option<Reason<'a>> {
     match hindrance {
-        Hindrance::NoKeys(file, fault) | Hindrance::OfFile(_, file, fault) => {
-            reason_of_file(new.dir, file, fault)
-        }
-        Hindrance::NoFile(fault) => reason_of_fault(new.super_key.unwrap_or(new.dir), fault),
-        Hindrance::NoFolder(fault) => reason_of_fault(new.dir, fault),
-        Hindrance::OfUser(_) => reason_of_folder(new.dir, Refusal::Foreign),
-        Hindrance::Refused(Refusal::Memory) => reason_of_memory(),
-        Hindrance::Refused(refusal) => reason_of_folder(new.dir, refusal),
-        Hindrance::NotRenewed(fault) => Reason::Of {
-            name: new.dir,
-            words: fault.words(),
-        },
+        Hindrance::OfUser(_) => Some(reason_of_folder(new.dir, Refusal::Foreign)),
+        Hindrance::Refused(Refusal::Memory) => Some(reason_of_memory()),
+        Hindrance::Refused(refusal) => Some(reason_of_folder(new.dir, refusal)),
+        other => reason_in(new.dir, new.super_key.unwrap_or(new.dir), other),
     }
 }

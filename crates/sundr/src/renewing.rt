@@ -1,12 +1,9 @@
 //! The making of one more key of a user.
 
-use crate::folder::{
-    Keys, MOST_KEYS, count_of, device_hindrance, keep_leaves, path_of, read_keys, read_present,
-};
-use crate::hindrance::{FileFault, FolderFile, Hindrance, RenewalFault};
+use crate::folder::{Keys, MOST_KEYS, count_of, keep_leaves, path_of, read_keys, read_present};
+use crate::hindrance::{At, FileFault, FolderFile, Hindrance, RenewalFault};
 use crate::init::{
-    Digits, Fingerprint, SeedBytes, key_of_seed, make_file, new_ledger, no_folder, random_seed,
-    sync_folder,
+    Digits, Fingerprint, SeedBytes, key_of_seed, move_in, new_ledger, random_seed, sync_folder,
 };
 use crate::standing::free_leaves;
 use crate::working::end_work;
@@ -16,10 +13,11 @@ use commands::Refusal;
 use drawn_key::LEDGER_SIZE;
 use file_commands::Line;
 use layout::{User, let_go};
-use lms_sign::{KEY_SIZE, PublicKey, SIGNATURE_SIZE, verify};
+use leaf_ledger::FileDevice;
+use lms_sign::{KEY_SIZE, PrivateKey, PublicKey, SIGNATURE_SIZE, verify};
 use std::alloc::{AllocError, Global};
+use std::fs;
 use std::thread::Threads;
-use std::{fs, io};
 
 /// How many leaves a key has.
 const LEAVES: usize = LEDGER_SIZE - KEY_SIZE;
@@ -49,12 +47,6 @@ struct Newest {
     leaves: usize,
 }
 
-/// Whether a text with its signature at its end is signed by a key.
-fn is_signed_by(key: &PublicKey, signed: &[u8]) -> bool {
-    let (text, signature) = signed.split_at(signed.len().saturating_sub(SIGNATURE_SIZE));
-    verify(key, text, signature)
-}
-
 /// The structure that was signed last, with its signature; nothing where an operation is declared, or none was signed.
 fn signed_text(alloc: Global, client: &OwnClient) -> Result<Vec<u8>, AllocError> {
     match client.phase() {
@@ -63,20 +55,34 @@ fn signed_text(alloc: Global, client: &OwnClient) -> Result<Vec<u8>, AllocError>
     }
 }
 
+/// What the newest key, with its ledger, tells of itself: whether it signed a text, with its signature at the end, and how
+/// many leaves it has left.
+fn tell_newest(
+    newest: Option<&(PrivateKey<Global>, FileDevice<Global>)>,
+    signed: &[u8],
+) -> (bool, usize) {
+    match newest {
+        Some((key, ledger)) => {
+            let (text, signature) = signed.split_at(signed.len().saturating_sub(SIGNATURE_SIZE));
+            let has_signed = verify(&key.public(), text, signature);
+            (has_signed, free_leaves(ledger.text()))
+        }
+        None => (false, 0),
+    }
+}
+
 /// What a client over a folder tells of its newest key.
 fn newest_of(alloc: Global, client: OwnClient) -> Result<Newest, AllocError> {
     let is_declared = matches!(client.phase(), Phase::Declared);
     let signed = signed_text(alloc, &client);
     let parts = client.close();
-    let (has_signed, leaves) = match (&signed, parts.keys.last()) {
-        (Ok(signed), Some((key, ledger))) => (
-            is_signed_by(&key.public(), signed),
-            free_leaves(ledger.text()),
-        ),
-        _ => (false, 0),
+    let newest = match &signed {
+        Ok(signed) => tell_newest(parts.keys.last(), signed),
+        Err(_) => (false, 0),
     };
     let_go(parts);
     let_go(signed?);
+    let (has_signed, leaves) = newest;
     Ok(Newest {
         is_declared,
         has_signed,
@@ -100,12 +106,12 @@ fn fault_of(newest: &Newest, early: bool) -> Option<RenewalFault> {
 }
 
 /// The number of a user's next key.
-fn next_number(user: User, keys: &Keys) -> Result<u8, RenewalFault> {
+fn next_number(user: User, keys: &Keys) -> Result<u8, Hindrance> {
     let count = count_of(keys);
     if user.get() == 0 {
-        Err(RenewalFault::Pinned)
+        Err(Hindrance::NotRenewed(RenewalFault::Pinned))
     } else if count >= MOST_KEYS {
-        Err(RenewalFault::KeysFull)
+        Err(Hindrance::NotRenewed(RenewalFault::KeysFull))
     } else {
         Ok(count)
     }
@@ -123,18 +129,6 @@ fn check_unused(rt: &HostRuntime, folder: &str, number: u8) -> Result<(), Hindra
     Err(Hindrance::OfFile(Refusal::Foreign, file, FileFault::Seedless))
 }
 
-/// Makes a file of the owner's alone with these bytes beside its place, and moves it there.
-pub(crate) fn move_in(rt: &HostRuntime, beside: &str, path: &str, bytes: &[u8]) -> io::Result<()> {
-    // What a renewal left that was stopped.
-    let _ = fs::remove_file(rt, beside);
-    make_file(rt, beside, bytes)?;
-    let moved = fs::rename(rt, beside, path);
-    if moved.is_err() {
-        let _ = fs::remove_file(rt, beside);
-    }
-    moved
-}
-
 /// Makes a file of a folder, which is there whole or not at all, and syncs the folder.
 fn make_whole(
     rt: &HostRuntime,
@@ -142,10 +136,8 @@ fn make_whole(
     file: FolderFile,
     bytes: &[u8],
 ) -> Result<(), Hindrance> {
-    let path = path_of(rt.alloc(), folder, file)?;
-    let beside = format!(in rt.alloc(); "{path}.new")?;
-    move_in(rt, &beside, &path, bytes).map_err(|fault| device_hindrance(file, &fault))?;
-    sync_folder(rt, folder).map_err(|fault| no_folder(&fault))
+    At::File(file).given(move_in(rt, folder, file, bytes))?;
+    At::Folder.given(sync_folder(rt, folder))
 }
 
 /// Makes the ledger of a key, with all leaves free, and then its seed: where the seed is, the ledger is. So that it
@@ -202,7 +194,7 @@ pub(crate) fn renew<H: Threads + Sync>(
     let newest = newest_of(rt.alloc(), client)?;
     end_work(rt, line.dir);
     if let Some(fault) = fault_of(&newest, early) {
-        return Err(fault.into());
+        return Err(Hindrance::NotRenewed(fault));
     }
     let key = make_key(rt, host, line.dir, number)?;
     let_go(locks);

@@ -3,19 +3,16 @@
 
 ghost use Rattle.std.specs.Prelude.{◌≡◌, ◌==◌, length, filter};
 
-use crate::folder::{
-    Keys, Seed, check_folder, check_ledger, last_signed, read_device, read_kept, read_keys,
-};
+use crate::folder::{Keys, check_folder, check_ledger, last_signed, read_device, read_keys};
 use crate::hindrance::{FolderFile, Hindrance};
 use crate::place::look_at_place;
-use crate::{OwnKeys, client_over};
+use crate::{OwnKeys, client_over, own_key};
 use client_verify::{Client, Phase};
 use commands::Refusal;
-use drawn_key::drawn_key;
 use file_commands::Line;
 use layout::{User, let_go};
 use leaf_ledger::MemoryDevice;
-use lms_sign::{KEY_SIZE, PrivateKey};
+use lms_sign::KEY_SIZE;
 use std::alloc::{AllocError, Global};
 use std::fmt;
 use std::thread::Threads;
@@ -107,19 +104,6 @@ impl fmt::Display for Standing {
     }
 }
 
-/// The key of a seed, which isn't kept where it has to be drawn.
-fn key_unkept<H: Threads + Sync>(
-    rt: &HostRuntime,
-    host: &H,
-    folder: &str,
-    seed: &Seed,
-) -> Result<PrivateKey<Global>, Hindrance> {
-    if let Some(key) = read_kept(rt, folder, seed)? {
-        return Ok(key);
-    }
-    Ok(drawn_key(host, rt.alloc(), seed.seed, seed.id)?)
-}
-
 /// The keys of these seeds, each with what its ledger's file holds. What was signed last is signed with a leaf that is
 /// used.
 fn read_own<H: Threads + Sync>(
@@ -132,7 +116,7 @@ fn read_own<H: Threads + Sync>(
     let mut own = Vec::new(rt.alloc());
     for seed in &keys.seeds {
         let ledger = read_device(rt, folder, FolderFile::Ledger(seed.number))?;
-        let key = key_unkept(rt, host, folder, seed)?;
+        let key = own_key(rt, host, folder, seed, false)?;
         check_ledger(seed.number, ledger.text(), &key, last)?;
         own.push((key, ledger))?;
     }
@@ -155,7 +139,7 @@ fn read_client<H: Threads + Sync>(
     keys: &Keys,
 ) -> Result<ReadClient, Hindrance> {
     let journal = read_device(rt, line.dir, FolderFile::Journal)?;
-    let own = read_own(rt, host, line.dir, keys, last_signed(journal.text()))?;
+    let own = read_own(rt, host, line.dir, keys, last_signed(journal.text(), None))?;
     match client_over(rt.alloc(), line.user, keys, own, journal) {
         Ok(client) => Ok(client),
         Err(hindrance) => Err(of_memory(hindrance)),

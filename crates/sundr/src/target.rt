@@ -1,11 +1,14 @@
 //! A file of the system into which the bytes of a file are written that is got.
 
-use crate::folder::{OWNERS_ALONE, content_hindrance};
-use crate::hindrance::{FileFault, Hindrance};
+use crate::folder::OWNERS_ALONE;
+use crate::hindrance::{At, FileFault, Hindrance};
+use crate::init::fill;
+use crate::opening::make;
+use commands::Answer;
 use std::alloc::{AllocError, Global};
-use std::fs::{self, File, OpenOptions, Permissions};
-use std::io::{self, ErrorKind, Write};
-use std::os::unix::fs::{MetadataExt, OpenOptionsExt, PermissionsExt};
+use std::fs::{self, File, Permissions};
+use std::io::{self, ErrorKind};
+use std::os::unix::fs::{MetadataExt, PermissionsExt};
 use std::path::Path;
 
 /// The mode of a file that is made, of which the system takes what it takes of each new one.
@@ -34,7 +37,7 @@ fn mode_at(rt: &HostRuntime, path: &str) -> Result<Option<u32>, Hindrance> {
         Ok(found) if !found.is_file() => Err(Hindrance::NoFile(FileFault::NoFile)),
         Ok(found) => Ok(Some(found.mode() & USE)),
         Err(fault) if fault.kind() == ErrorKind::NotFound => Ok(None),
-        Err(fault) => Err(content_hindrance(&fault)),
+        Err(fault) => Err(At::Named.hindrance(&fault)),
     }
 }
 
@@ -52,15 +55,6 @@ fn name_beside(alloc: Global, path: &str, number: u8) -> Result<String, AllocErr
     format!(in alloc; "{folder}/.sundr-get.{number}")
 }
 
-/// Makes a file where there is none, and no link is followed.
-fn make(rt: &HostRuntime, path: &str, mode: u32) -> io::Result<File> {
-    OpenOptions::new()
-        .write(true)
-        .create_new(true)
-        .mode(mode)
-        .open(rt, path)
-}
-
 /// Makes a file beside another one, by the first name that is free.
 fn make_beside(rt: &HostRuntime, path: &str, mode: u32) -> io::Result<(String, File)> {
     for number in 0..MOST_NAMES {
@@ -72,12 +66,6 @@ fn make_beside(rt: &HostRuntime, path: &str, mode: u32) -> io::Result<(String, F
         }
     }
     Err(ErrorKind::AlreadyExists.into())
-}
-
-/// Writes these bytes, and syncs them.
-fn fill(file: &mut File, bytes: &[u8]) -> io::Result<()> {
-    file.write_all(bytes)?;
-    file.sync_all()
 }
 
 /// Syncs the folder in which a file stands.
@@ -102,7 +90,7 @@ impl<'a> Target<'a> {
                 file,
                 mode,
             }),
-            Err(fault) => Err(content_hindrance(&fault)),
+            Err(fault) => Err(At::Named.hindrance(&fault)),
         }
     }
 
@@ -118,20 +106,24 @@ impl<'a> Target<'a> {
         Ok(())
     }
 
-    /// The file is as it was, and nothing is left beside it.
-    pub(crate) fn leave(self, rt: &HostRuntime) {
-        let _ = fs::remove_file(rt, &self.beside);
-    }
-
-    /// The file has these bytes, or is as it was, and nothing is left beside it.
-    pub(crate) fn finish(self, rt: &HostRuntime, bytes: &[u8]) -> Result<(), Hindrance> {
-        let mut target = self;
-        match target.put(rt, bytes) {
-            Ok(()) => Ok(()),
-            Err(fault) => {
-                target.leave(rt);
-                Err(content_hindrance(&fault))
+    /// The file has the bytes that an answer shows: whether it shows any. It is as it was where there are none, or they
+    /// can't be written, and nothing is left beside it.
+    pub(crate) fn take(
+        &mut self,
+        rt: &HostRuntime,
+        answer: Option<&Answer<Global>>,
+    ) -> Result<bool, Hindrance> {
+        let written = match answer {
+            Some(Answer::Bytes(bytes)) => At::Named.given(self.put(rt, bytes)),
+            _ => {
+                let _ = fs::remove_file(rt, &self.beside);
+                return Ok(false);
             }
+        };
+        if written.is_err() {
+            let _ = fs::remove_file(rt, &self.beside);
         }
+        written?;
+        Ok(true)
     }
 }

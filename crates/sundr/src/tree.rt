@@ -1,16 +1,14 @@
 //! What is written of a whole folder: how much, and what was left out.
 
-use crate::hindrance::{FileFault, Hindrance};
-use crate::init::no_folder;
-use crate::reaching::Server;
-use crate::{OwnSession, answer, detailed};
+use crate::asking::Asks;
+use crate::hindrance::{At, FileFault, Hindrance};
 use commands::{Answer, Command, Refusal};
 use directory::Target as Place;
+use layout::put_in;
 use std::alloc::{AllocError, AllocFailed, Global};
 use std::fmt;
 use std::fs::{self, Metadata};
 use std::io::IsTerminal;
-use std::net::{Net, TcpStream};
 use std::os::unix::fs::MetadataExt;
 
 /// What is told of the folder of the own keys.
@@ -36,50 +34,13 @@ impl fmt::Display for Shown<'_> {
     }
 }
 
-/// Which folder the user's own one is: nothing below it is put, and nothing is written into it.
+/// Why no more is written.
 #[derive(Clone, Copy)]
-struct Own {
-    device: u64,
-    number: u64,
-}
-
-impl Own {
-    /// The user's folder at a path.
-    fn of(rt: &HostRuntime, dir: &str) -> Result<Own, Hindrance> {
-        match fs::metadata(rt, dir) {
-            Ok(found) => Ok(Own {
-                device: found.dev(),
-                number: found.ino(),
-            }),
-            Err(fault) => Err(no_folder(&fault)),
-        }
-    }
-
-    /// Whether it is this one.
-    fn is(self, found: &Metadata) -> bool {
-        found.dev() == self.device && found.ino() == self.number
-    }
-}
-
-/// Why no more is written: an answer that isn't that all was done, or what hinders.
-#[derive(Drop)]
 pub(crate) enum Stopped {
-    /// This came of a command.
-    Answered(Answer<Global>),
+    /// An answer that isn't that all was done, which is kept.
+    Answered,
     /// This hinders.
     Hindered(Hindrance),
-}
-
-impl Stopped {
-    /// Whether the same may come to an end another time.
-    fn may_go_on(&self) -> bool {
-        match self {
-            Stopped::Answered(Answer::Refused(refusal)) => {
-                matches!(refusal, Refusal::Cut | Refusal::Memory)
-            }
-            _ => false,
-        }
-    }
 }
 
 impl From<Hindrance> for Stopped {
@@ -100,84 +61,6 @@ impl<T: Drop> From<AllocFailed<T>> for Stopped {
     }
 }
 
-/// How many files were written, and whether something was left out.
-#[derive(Clone, Copy)]
-pub(crate) struct Tally {
-    files: u64,
-    is_partial: bool,
-}
-
-impl Tally {
-    /// Nothing was written or left out.
-    pub(crate) fn new() -> Tally {
-        Tally {
-            files: 0,
-            is_partial: false,
-        }
-    }
-
-    /// So many files more were written, which is told where standard error is a terminal.
-    pub(crate) fn count(&mut self, rt: &HostRuntime, files: usize) {
-        self.files = self.files.saturating_add(files as u64);
-        if rt.stderr().is_terminal() {
-            let _ = eprint!(rt; "\r{} files", self.files);
-        }
-    }
-
-    /// Something is left out: that is told, with its name and why.
-    pub(crate) fn leave_out(&mut self, rt: &HostRuntime, name: &str, why: &str) {
-        self.is_partial = true;
-        let _ = eprintln!(rt; "sundr: {}: {why}: left out", Shown(name));
-    }
-
-    /// What came of a file or a folder of this system. Where it is at fault, it is left out, but for a full disk.
-    pub(crate) fn past(
-        &mut self,
-        rt: &HostRuntime,
-        name: &str,
-        done: Result<(), Stopped>,
-    ) -> Result<(), Stopped> {
-        match done {
-            Err(Stopped::Hindered(Hindrance::NoFile(fault))) if !matches!(fault, FileFault::Full) =>
-                {
-                    self.leave_out(rt, name, fault.words());
-                    Ok(())
-                }
-            other => other,
-        }
-    }
-
-    /// What is told when all of it was gone through, or when it was stopped: then how much was written before.
-    pub(crate) fn answer(
-        self,
-        rt: &HostRuntime,
-        name: &str,
-        gone: Result<(), Stopped>,
-    ) -> Result<Answer<Global>, Hindrance> {
-        if rt.stderr().is_terminal() {
-            let _ = eprintln!(rt;);
-        }
-        if let Err(stopped) = &gone {
-            let hint = if stopped.may_go_on() {
-                ": say it again to go on"
-            } else {
-                ""
-            };
-            let _ = eprintln!(rt;
-                "sundr: {}: {} files were written{hint}",
-                Shown(name),
-                self.files
-            );
-        }
-        match gone {
-            Ok(()) if self.is_partial => Err(Hindrance::NoFile(FileFault::LeftOut)),
-            Ok(()) => Ok(Answer::Done),
-            Err(Stopped::Answered(answer)) => Ok(answer),
-            Err(Stopped::Hindered(hindrance)) => Err(hindrance),
-        }
-    }
-}
-
 /// The word for what stands at an i-number.
 pub(crate) fn place_word(alloc: Global, place: Place) -> Result<String, AllocError> {
     let (principal, i_number) = (place.principal.get(), place.i_number.get());
@@ -190,64 +73,132 @@ pub(crate) fn joined(alloc: Global, above: &str, name: &str) -> Result<String, A
     format!(in alloc; "{above}/{name}")
 }
 
-/// Carries out a command with a look of its own.
-pub(crate) fn run<H: Net<Stream = TcpStream>>(
-    rt: &HostRuntime,
-    server: &Server<'_, H>,
-    session: &mut OwnSession<'_, H>,
-    command: &Command<'_>,
-) -> Answer<Global> {
-    server.begin();
-    answer(rt, server, session, command)
-}
-
-/// With what a folder is put or got: a session with the server, of the user whose folder this is.
+/// With what a folder is put or got: a session of the user whose folder this is; and how much of it was.
 #[derive(Drop)]
-pub(crate) struct Context<'a, 's, 'c, H: Net<Stream = TcpStream>> {
+pub(crate) struct Context<'a, S: Asks> {
     pub(crate) rt: &'a HostRuntime,
     pub(crate) dir: &'a str,
-    own: Own,
-    server: &'a Server<'s, H>,
-    session: &'a mut OwnSession<'c, H>,
+    pub(crate) session: &'a mut S,
+    /// The numbers by which the system knows the user's own folder: nothing below it is put, and nothing is written into
+    /// it.
+    own: (u64, u64),
+    /// How many files were written.
+    files: u64,
+    /// Whether something was left out.
+    is_partial: bool,
+    /// What came of a command, where that stopped it.
+    answer: Option<Answer<Global>>,
 }
 
-impl<'a, 's, 'c, H: Net<Stream = TcpStream>> Context<'a, 's, 'c, H> {
-    /// That of a session, of the user of a folder.
+/// What is told at the end, where all was gone through or it was stopped.
+fn end_of(
+    gone: Result<(), Stopped>,
+    is_partial: bool,
+    answer: Option<Answer<Global>>,
+) -> Result<Answer<Global>, Hindrance> {
+    match gone {
+        Err(Stopped::Hindered(hindrance)) => Err(hindrance),
+        Ok(()) if is_partial => Err(Hindrance::NoFile(FileFault::LeftOut)),
+        _ => Ok(answer.unwrap_or(Answer::Done)),
+    }
+}
+
+impl<'a, S: Asks> Context<'a, S> {
+    /// That of a session, of the user of a folder. Nothing was written or left out.
     pub(crate) fn new(
         rt: &'a HostRuntime,
         dir: &'a str,
-        server: &'a Server<'s, H>,
-        session: &'a mut OwnSession<'c, H>,
-    ) -> Result<Context<'a, 's, 'c, H>, Hindrance> {
-        let own = Own::of(rt, dir)?;
+        session: &'a mut S,
+    ) -> Result<Context<'a, S>, Hindrance> {
+        let own = At::Folder.given(fs::metadata(rt, dir))?;
         Ok(Context {
             rt,
             dir,
-            own,
-            server,
             session,
+            own: (own.dev(), own.ino()),
+            files: 0,
+            is_partial: false,
+            answer: None,
         })
     }
 
     /// Whether a folder is the user's own.
     pub(crate) fn is_own(&self, found: &Metadata) -> bool {
-        self.own.is(found)
+        (found.dev(), found.ino()) == self.own
     }
 
-    /// Carries out a command with a look of its own.
+    /// Carries a command out.
     pub(crate) fn run(&mut self, command: &Command<'_>) -> Answer<Global> {
-        run(self.rt, self.server, self.session, command)
+        self.session.run(command)
     }
 
-    /// Tells what a command shows in the view of the last look.
-    pub(crate) fn show(&mut self, command: &Command<'_>) -> Answer<Global> {
-        self.server.begin();
-        match command {
-            Command::Details(path) => {
-                let listed = self.session.tell(&Command::Ls(path));
-                detailed(self.rt, self.server, self.session, path, listed)
-            }
-            _ => self.session.tell(command),
+    /// An answer isn't that all was done.
+    pub(crate) fn stop(&mut self, answer: Answer<Global>) -> Stopped {
+        put_in(&mut self.answer, Some(answer));
+        Stopped::Answered
+    }
+
+    /// So many files more were written, which is told where standard error is a terminal.
+    pub(crate) fn count(&mut self, files: usize) {
+        let rt = self.rt;
+        self.files = self.files.saturating_add(files as u64);
+        if rt.stderr().is_terminal() {
+            let _ = eprint!(rt; "\r{} files", self.files);
         }
+    }
+
+    /// Something is left out: that is told, with its name and why.
+    pub(crate) fn leave_out(&mut self, name: &str, why: &str) {
+        let rt = self.rt;
+        self.is_partial = true;
+        let _ = eprintln!(rt; "sundr: {}: {why}: left out", Shown(name));
+    }
+
+    /// What came of a file or a folder of this system. Where it is at fault, it is left out, but for a full disk.
+    pub(crate) fn past(&mut self, name: &str, done: Result<(), Stopped>) -> Result<(), Stopped> {
+        match done {
+            Err(Stopped::Hindered(Hindrance::NoFile(FileFault::Full))) => done,
+            Err(Stopped::Hindered(Hindrance::NoFile(fault))) => {
+                self.leave_out(name, fault.words());
+                Ok(())
+            }
+            _ => done,
+        }
+    }
+
+    /// Tells when all was gone through, or when it was stopped: then how much was written before, and whether the same may
+    /// come to an end another time.
+    fn tell_end(&self, name: &str, is_whole: bool) {
+        let rt = self.rt;
+        if rt.stderr().is_terminal() {
+            let _ = eprintln!(rt;);
+        }
+        if is_whole {
+            return;
+        }
+        let hint = match &self.answer {
+            Some(Answer::Refused(Refusal::Cut | Refusal::Memory)) => ": say it again to go on",
+            _ => "",
+        };
+        let _ = eprintln!(rt;
+            "sundr: {}: {} files were written{hint}",
+            Shown(name),
+            self.files
+        );
+    }
+
+    /// What is told at the end.
+    pub(crate) fn finish(
+        self,
+        name: &str,
+        gone: Result<(), Stopped>,
+    ) -> Result<Answer<Global>, Hindrance> {
+        self.tell_end(name, gone.is_ok());
+        let Context {
+            is_partial,
+            answer,
+            ..
+        } = self;
+        end_of(gone, is_partial, answer)
     }
 }

@@ -1,16 +1,14 @@
 //! Who is listed, with which key, and who is a member of which group.
 
+use crate::asking::Asks;
 use crate::hindrance::Hindrance;
 use crate::init::Fingerprint;
-use crate::reaching::Server;
-use crate::tree::run;
-use crate::{OwnSession, Told};
+use crate::obeying::Outcome;
 use commands::{Answer, Command, Refusal};
 use layout::{Group, ReadError, Text, User};
 use principals::Table;
 use std::alloc::Global;
 use std::fmt;
-use std::net::{Net, TcpStream};
 
 /// Where the table of principals is read.
 const TABLE: &str = "@0:1";
@@ -85,23 +83,22 @@ impl fmt::Display for Listed {
 }
 
 /// The table that a text is. One that is none can't be shown: each view has a table.
-fn told_of_text(alloc: Global, own: User, text: &[u8]) -> Result<Told, Hindrance> {
+fn outcome_of_text(alloc: Global, own: User, text: &[u8]) -> Result<Outcome, Hindrance> {
     match Table::read(alloc, text) {
-        Ok(table) => Ok(Told::Users(Listed { own, table })),
+        Ok(table) => Ok(Outcome::Users(Listed { own, table })),
         Err(ReadError::Memory) => Err(Hindrance::Refused(Refusal::Memory)),
         Err(_) => Err(Hindrance::Refused(Refusal::NoPath)),
     }
 }
 
 /// Who is listed in the view of a look.
-pub(crate) fn list_users<H: Net<Stream = TcpStream>>(
+pub(crate) fn list_users<S: Asks>(
     rt: &HostRuntime,
-    server: &Server<'_, H>,
-    session: &mut OwnSession<'_, H>,
+    session: &mut S,
     own: User,
-) -> Result<Told, Hindrance> {
-    match run(rt, server, session, &Command::Cat(TABLE)) {
-        Answer::Bytes(text) => told_of_text(rt.alloc(), own, &text),
-        other => Ok(Told::Answer(other)),
+) -> Result<Outcome, Hindrance> {
+    match session.run(&Command::Cat(TABLE)) {
+        Answer::Bytes(text) => outcome_of_text(rt.alloc(), own, &text),
+        other => Ok(Outcome::Answer(other)),
     }
 }

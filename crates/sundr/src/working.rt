@@ -2,21 +2,16 @@
 //! a ledger or of the journal that aren't on the disk, and that it syncs no more: after a sync that failed it takes what it
 //! holds for written.
 
-use crate::folder::{OWNERS_ALONE, device_hindrance, path_of};
-use crate::hindrance::{FolderFile, Hindrance};
-use crate::opening::open_present_to_write;
-use std::fs::{self, File, OpenOptions};
+use crate::folder::{OWNERS_ALONE, path_of};
+use crate::hindrance::{At, FolderFile, Hindrance};
+use crate::opening::{make, open_present_to_write};
+use std::fs::{self, File};
 use std::io::{self, ErrorKind};
-use std::os::unix::fs::{FileExt, OpenOptionsExt};
+use std::os::unix::fs::FileExt;
 
 /// Makes the file that is there while a command works in the folder, and tells whether it was there.
 fn make_note(rt: &HostRuntime, path: &str) -> io::Result<bool> {
-    let made = OpenOptions::new()
-        .write(true)
-        .create_new(true)
-        .mode(OWNERS_ALONE)
-        .open(rt, path);
-    match made {
+    match make(rt, path, OWNERS_ALONE) {
         Ok(_) => Ok(false),
         Err(fault) if fault.kind() == ErrorKind::AlreadyExists => Ok(true),
         Err(fault) => Err(fault),
@@ -32,20 +27,16 @@ fn write_again(rt: &HostRuntime, file: &File) -> io::Result<()> {
     file.sync_all()
 }
 
-/// The same of a file of the folder.
-fn write_own_again(rt: &HostRuntime, file: FolderFile, opened: &File) -> Result<(), Hindrance> {
-    write_again(rt, opened).map_err(|fault| device_hindrance(file, &fault))
-}
-
 /// Writes the ledgers, which are locked, and the journal, where there is one, over themselves.
 fn write_all_again(rt: &HostRuntime, folder: &str, ledgers: &[File]) -> Result<(), Hindrance> {
     let mut number = 0u8;
     for ledger in ledgers {
-        write_own_again(rt, FolderFile::Ledger(number), ledger)?;
+        At::File(FolderFile::Ledger(number)).given(write_again(rt, ledger))?;
         number = number.saturating_add(1);
     }
-    match open_present_to_write(rt, folder, FolderFile::Journal)? {
-        Some(journal) => write_own_again(rt, FolderFile::Journal, &journal),
+    let file = FolderFile::Journal;
+    match open_present_to_write(rt, folder, file)? {
+        Some(journal) => At::File(file).given(write_again(rt, &journal)),
         None => Ok(()),
     }
 }
@@ -58,11 +49,7 @@ pub(crate) fn begin_work(
     ledgers: &[File],
 ) -> Result<(), Hindrance> {
     let path = path_of(rt.alloc(), folder, FolderFile::Working)?;
-    let is_left = make_note(rt, &path).map_err(|fault| device_hindrance(
-        FolderFile::Working,
-        &fault,
-    ))?;
-    if is_left {
+    if At::File(FolderFile::Working).given(make_note(rt, &path))? {
         write_all_again(rt, folder, ledgers)?;
     }
     Ok(())
